@@ -1,0 +1,5 @@
+pub mod Lists
+pub mod Training
+pub mod Check
+pub mod Search
+pub mod Outcomes

@@ -1,0 +1,1 @@
+// Flat lent buffers: a part of one, and fills.

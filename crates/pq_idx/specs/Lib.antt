@@ -1,0 +1,6 @@
+pub mod Answers
+pub mod Training
+pub mod Tables
+pub mod Refusals
+pub mod Results
+pub mod Outcomes

@@ -1,0 +1,1 @@
+// Parameters with the Rust's defaults, their bounds, and the range rule.
