@@ -1,0 +1,4 @@
+pub mod Tables
+pub mod Parts
+pub mod Joins
+pub mod Tests

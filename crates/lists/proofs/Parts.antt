@@ -1,0 +1,78 @@
+-- Laws on a part of a list, and on a list with a part put in.
+use Prim.Native.Nat.{ℕ, zero, suc, _+_, _-_, _≤_, _<_}
+use mathlib.Core.Path.{_≡_, refl, sym, _∙_, ap}
+use mathlib.Core.List.{List, [], _∷_, _++_, append-assoc, append-nil}
+use native.Mathlib.Nat.{add-sub-cancel-left, add-zero}
+use native.Mathlib.Omega.{arith}
+use lib.ListN.{length, take, drop, set, getD, length-append, length-take, length-drop, drop-of-length-le, List·getD-append, take-append-drop}
+use lib.Seq.{take-append-le, drop-append-le, take-at, drop-at, take-all, drop-drop, getD-take, getD-drop, getD-append-add, take-take}
+use Rattle.lists.specs.Lists.{part, putPart}
+
+module _ {ℓ} {A : Type ℓ} where
+  pub length-part : (s : List A) (a w : ℕ) → a + w ≤ length s → length (part s a w) ≡ w
+  unfolding part
+  length-part s a w h = simp (length-take, length-drop) (omega arith)
+
+  pub getD-part : (s : List A) (a w j : ℕ) (d : A) → j < w → getD (part s a w) j d ≡ getD s (a + j) d
+  unfolding part
+  getD-part s a w j d h = getD-take w (drop a s) j d h ∙ getD-drop a s j d
+
+  -- the whole of a list
+  pub part-all : (s : List A) (w : ℕ) → length s ≡ w → part s 0 w ≡ s
+  unfolding part
+  part-all s w e = take-all w s (omega arith)
+
+  pub length-putPart : (s p : List A) (a w : ℕ) → a + w ≤ length s → length p ≡ w → length (putPart s a w p) ≡ length s
+  unfolding putPart
+  length-putPart s p a w h e =
+      length-append (take a s) (p ++ drop w (drop a s)) ∙ simp (length-take, length-append, length-drop) (omega arith)
+
+  -- an element of the part that was put in, and one outside of it
+  pub getD-putPart-in : (s p : List A) (a w j : ℕ) (d : A) → a ≤ length s → length p ≡ w → j < w → getD (putPart s a w p) (a + j) d ≡ getD p j d
+  unfolding putPart
+  getD-putPart-in s p a w j d h e k =
+      let l : length (take a s) ≡ a = simp length-take (omega arith) in
+      let q = getD-append-add (take a s) (p ++ drop w (drop a s)) j d in
+      rw l at q ∙ List·getD-append p (drop w (drop a s)) d j (omega arith)
+
+  pub getD-putPart-before : (s p : List A) (a w x : ℕ) (d : A) → a ≤ length s → x < a → getD (putPart s a w p) x d ≡ getD s x d
+  unfolding putPart
+  getD-putPart-before s p a w x d h k =
+      let l : length (take a s) ≡ a = simp length-take (omega arith) in
+      List·getD-append (take a s) (p ++ drop w (drop a s)) d x (omega arith) ∙ getD-take a s x d k
+
+  past : (s p : List A) (a w y : ℕ) (d : A) → a ≤ length s → length p ≡ w → getD (putPart s a w p) (a + (w + y)) d ≡ getD s (a + (w + y)) d
+  unfolding putPart
+  past s p a w y d h e =
+      let l : length (take a s) ≡ a = simp length-take (omega arith) in
+      let q = getD-append-add (take a s) (p ++ drop w (drop a s)) (w + y) d in
+      let r = getD-append-add p (drop w (drop a s)) y d in
+      rw l at q ∙ rw e at r ∙ getD-drop w (drop a s) y d ∙ getD-drop a s (w + y) d
+
+  pub getD-putPart-after : (s p : List A) (a w x : ℕ) (d : A) → a ≤ length s → length p ≡ w → a + w ≤ x → getD (putPart s a w p) x d ≡ getD s x d
+  getD-putPart-after s p a w x d h e k =
+      let q : x ≡ a + (w + (x - (a + w))) = omega arith in
+      rw q (past s p a w (x - (a + w)) d h e)
+
+  -- a seam: where the part stands at the end of a list, or before the seam
+  pub part-append : (xs ys : List A) (a w : ℕ) → a + w ≤ length xs → part (xs ++ ys) a w ≡ part xs a w
+  unfolding part
+  part-append xs ys a w h =
+      let p : a ≤ length xs = omega arith in
+      let q : w ≤ length (drop a xs) = omega (arith, length-drop a xs) in
+      rw (drop-append-le, take-append-le)
+
+  pub part-seam : (xs ys : List A) (a w : ℕ) → length xs ≡ a → part (xs ++ ys) a w ≡ take w ys
+  unfolding part
+  part-seam xs ys a w l = rw (drop-at xs ys a l)
+
+  pub put-append : (xs ys p : List A) (a w : ℕ) → a + w ≤ length xs → putPart (xs ++ ys) a w p ≡ putPart xs a w p ++ ys
+  unfolding putPart
+  put-append xs ys p a w h =
+      let l : a ≤ length xs = omega arith in
+      let q : w ≤ length (drop a xs) = omega (arith, length-drop a xs) in
+      rw (take-append-le, drop-append-le a, drop-append-le w) (simp append-assoc)
+
+  pub put-seam : (xs ys p : List A) (a w : ℕ) → length xs ≡ a → putPart (xs ++ ys) a w p ≡ xs ++ (p ++ drop w ys)
+  unfolding putPart
+  put-seam xs ys p a w l = rw (take-at xs ys a l, drop-at xs ys a l)

@@ -1,0 +1,55 @@
+use borrow.Author.Needs.{needs}
+use Prim.Native.Nat.{_-_, _≤_}
+use mathlib.Core.Path.{_≡_, refl}
+use mathlib.Core.List.{_++_}
+use lib.ListN.{length, drop}
+use lib.Ieee.{nan}
+use Rattle.lists.specs.Lists.{fill}
+use Rattle.lists.proofs.Tables.{tab-none, tab-step, tab-done}
+use Rattle.lists.proofs.fill_floats.Statement.{statement}
+use Rattle.lists.proofs.fill_floats.Tie as tie
+
+abbrev Inv-loop : tie.InvT-loop
+Inv-loop s₀ v i₀ i-end s i = (i ≤ length s₀) × (length s ≡ length s₀) × (s ≡ fill v i ++ drop i s₀)
+
+abbrev μ-loop : tie.MeasureT-loop
+μ-loop s₀ v i₀ i-end s i = length s₀ - i
+
+loop-holds : tie.Need-loop-holds Inv-loop μ-loop
+loop-holds c = (search needs, search needs, tab-none _ _)
+
+mul-s : tie.Need-mul-s Inv-loop μ-loop
+mul-s c = search needs
+
+slice-write-s : tie.Need-slice-write-s Inv-loop μ-loop
+slice-write-s c = search needs
+
+add-i : tie.Need-add-i Inv-loop μ-loop
+add-i c = search needs
+
+loop-less : tie.Need-loop-less Inv-loop μ-loop
+loop-less c = search needs
+
+loop-again : tie.Need-loop-again Inv-loop μ-loop
+loop-again c = (search needs, search needs, tab-step _ _ _ _ _ nan (search needs) (c .before .loop .inv .2) refl)
+
+same-length : tie.Need-same-length Inv-loop μ-loop
+same-length c = search needs
+
+returns : tie.Need-returns Inv-loop μ-loop
+returns c = tab-done _ _ _ _ _ (c .before .loop .inv .2) (search needs) (search needs) (search needs)
+
+pub fill-floats-spec : {M : Type 1} → statement M
+fill-floats-spec =
+    tie.close
+    (tie.spec
+    Inv-loop
+    μ-loop
+    loop-holds
+    mul-s
+    slice-write-s
+    add-i
+    loop-less
+    loop-again
+    same-length
+    returns)
