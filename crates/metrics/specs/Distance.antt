@@ -21,9 +21,13 @@ unfoldable pub valueOf : Bool → Float → Float → Float
 valueOf true x r = sub binary32 x r
 valueOf false x r = x
 
+-- the coordinates of a slice
+abbrev pub coordinateIn : List Float → ℕ → Float
+coordinateIn x j = getD x j nan
+
 -- the values of a slice of coordinates, less the slice of the residual's if there is one
 abbrev pub valueIn : Bool → List Float → List Float → ℕ → Float
-valueIn has x r j = valueOf has (getD x j nan) (getD r j nan)
+valueIn has x r j = valueOf has (coordinateIn x j) (coordinateIn r j)
 
 -- d·d with d = value − centre, at coordinate j
 abbrev pub termAt : (ℕ → Float) → (ℕ → Float) → ℕ → Float

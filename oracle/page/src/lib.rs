@@ -1,0 +1,56 @@
+//! Document 01 read plainly, written from its text and not from the Rust. It is the voice that the
+//! comparison sets beside the Rust while the library has no entry points, and the voice of document
+//! 01 where the two disagree.
+//!
+//! Everything is worked on values in the plainest way; nothing here is meant to be fast. A refusal
+//! is an early `Err`, and what it leaves in the lent buffers is written in one place for each
+//! operation, at its entry point.
+
+mod celled;
+mod kmeans;
+mod plain;
+mod ranges;
+mod refusals;
+mod search;
+
+use seat::*;
+
+pub use kmeans::distance;
+pub use ranges::covered;
+
+/// The voice of document 01.
+pub struct Page;
+
+impl Subject for Page {
+    fn name(&self) -> &'static str {
+        "page"
+    }
+
+    fn ranges(&self, d: usize, n_sub: usize) -> Option<Result<Ranges, u32>> {
+        Some(ranges::ranges(d, n_sub))
+    }
+
+    fn kmeans(&self, task: Kmeans) -> Option<Trained> {
+        Some(kmeans::alone(task))
+    }
+
+    fn train_plain(&self, task: PlainTraining) -> Option<Trained> {
+        Some(plain::train(task))
+    }
+
+    fn search_plain(&self, task: PlainSearch) -> Option<Searched> {
+        Some(plain::search(task))
+    }
+
+    fn train_celled(&self, task: CelledTraining) -> Option<Trained> {
+        Some(celled::train(task))
+    }
+
+    fn search_celled(&self, task: CelledSearch) -> Option<Searched> {
+        Some(celled::search(task))
+    }
+
+    fn check_celled(&self, task: CelledCheck) -> Option<Checked> {
+        Some(celled::check(task))
+    }
+}

@@ -1,0 +1,219 @@
+//! Puts a case to a voice: lends it buffers of the right lengths, filled with junk, and keeps what
+//! they hold afterwards.
+
+use seat::{
+    CelledIndex, CelledSearch, CelledTraining, Kmeans, PlainSearch, PlainTraining, Searched,
+    Subject, Trained,
+};
+
+use crate::case::*;
+
+/// What a voice answered, and what it left in the lent buffers.
+pub struct Reply {
+    pub answer: Trained,
+    pub buffers: Vec<Buffer>,
+    pub work: Vec<u32>,
+    pub searches: Vec<Heard>,
+}
+
+/// One search as heard.
+pub struct Heard {
+    pub answer: Searched,
+    pub rows: Vec<u32>,
+    pub sums: Vec<f32>,
+    pub table: Vec<f32>,
+}
+
+const JUNK_U32: u32 = 0xdead_beef;
+const JUNK_F32: f32 = -1.25e-7;
+const JUNK_U8: u8 = 0xaa;
+
+/// The reply of a voice; none if it lacks the entry point.
+pub fn hear(subject: &dyn Subject, case: &Case) -> Option<Reply> {
+    match case {
+        Case::Kmeans(case) => hear_kmeans(subject, case),
+        Case::Plain(case) => hear_plain(subject, case),
+        Case::Celled(case) => hear_celled(subject, case),
+    }
+}
+
+fn hear_kmeans(subject: &dyn Subject, case: &KmeansCase) -> Option<Reply> {
+    let mut centres = vec![JUNK_F32; case.n_center * (case.end - case.begin)];
+    let mut assigned = vec![JUNK_U32; case.members.len()];
+    let answer = subject.kmeans(Kmeans {
+        d: case.d,
+        rows: &case.rows,
+        members: &case.members,
+        begin: case.begin,
+        end: case.end,
+        residual: case.residual.as_deref(),
+        n_center: case.n_center,
+        epochs: case.epochs,
+        draws: &case.draws,
+        centres: &mut centres,
+        assigned: &mut assigned,
+    })?;
+    let buffers = vec![
+        Buffer { name: "centres", words: Words::F32(centres) },
+        Buffer { name: "assignment", words: Words::U32(assigned) },
+    ];
+    Some(Reply { answer, buffers, work: Vec::new(), searches: Vec::new() })
+}
+
+fn hear_plain(subject: &dyn Subject, case: &PlainCase) -> Option<Reply> {
+    let (n, params) = (case.n(), case.params);
+    let mut sub_centres = vec![JUNK_F32; page::covered(params.d, params.n_sub) << params.sub_bits];
+    let mut codes = vec![JUNK_U8; n * params.n_sub];
+    let mut work = vec![JUNK_U32; n + 1024];
+    let answer = subject.train_plain(PlainTraining {
+        params,
+        epochs: case.epochs,
+        n,
+        rows: &case.rows,
+        draws: &case.draws,
+        sub_centres: &mut sub_centres,
+        codes: &mut codes,
+        work: &mut work,
+    })?;
+    let mut searches = Vec::new();
+    if answer.is_ok() {
+        for query in &case.queries {
+            let (codes, mask) = under_mask(query, &codes, params.n_sub, params.sub_bits, n);
+            let lent = Lent::new(query.k, params.n_sub << params.sub_bits);
+            searches.push(lent.search(|table, rows, sums| {
+                let (sub_centres, codes, mask) = (&sub_centres[..], &codes[..], &mask[..]);
+                let query = &query.point[..];
+                subject.search_plain(PlainSearch {
+                    params, n, sub_centres, codes, mask, query, table, rows, sums,
+                })
+            })?);
+        }
+    }
+    let buffers = vec![
+        Buffer { name: "sub-centres", words: Words::F32(sub_centres) },
+        Buffer { name: "codes", words: Words::U8(codes) },
+    ];
+    Some(Reply { answer, buffers, work, searches })
+}
+
+/// The five buffers of a celled index, lent full of junk.
+struct CelledBuffers {
+    coarse: Vec<f32>,
+    starts: Vec<u32>,
+    members: Vec<u32>,
+    sub_centres: Vec<f32>,
+    codes: Vec<u8>,
+}
+
+impl CelledBuffers {
+    fn new(case: &CelledCase) -> CelledBuffers {
+        let (plain, cells) = (case.params.plain, case.params.cells);
+        let covered = page::covered(plain.d, plain.n_sub);
+        CelledBuffers {
+            coarse: vec![JUNK_F32; cells * plain.d],
+            starts: vec![JUNK_U32; cells + 1],
+            members: vec![JUNK_U32; case.n()],
+            sub_centres: vec![JUNK_F32; (cells * covered) << plain.sub_bits],
+            codes: vec![JUNK_U8; case.n() * plain.n_sub],
+        }
+    }
+
+    fn named(self) -> Vec<Buffer> {
+        vec![
+            Buffer { name: "coarse centres", words: Words::F32(self.coarse) },
+            Buffer { name: "list starts", words: Words::U32(self.starts) },
+            Buffer { name: "list members", words: Words::U32(self.members) },
+            Buffer { name: "sub-centres", words: Words::F32(self.sub_centres) },
+            Buffer { name: "codes", words: Words::U8(self.codes) },
+        ]
+    }
+}
+
+fn hear_celled(subject: &dyn Subject, case: &CelledCase) -> Option<Reply> {
+    let (n, params) = (case.n(), case.params);
+    let mut lent = CelledBuffers::new(case);
+    let mut work = vec![JUNK_U32; n + 1024];
+    let answer = subject.train_celled(CelledTraining {
+        params,
+        epochs: case.epochs,
+        n,
+        rows: &case.rows,
+        draws: &case.draws,
+        coarse: &mut lent.coarse,
+        starts: &mut lent.starts,
+        members: &mut lent.members,
+        sub_centres: &mut lent.sub_centres,
+        codes: &mut lent.codes,
+        work: &mut work,
+    })?;
+    let mut searches = Vec::new();
+    if answer.is_ok() {
+        for query in &case.queries {
+            searches.push(search_celled(subject, case, &lent, query)?);
+        }
+    }
+    Some(Reply { answer, buffers: lent.named(), work, searches })
+}
+
+fn search_celled(
+    subject: &dyn Subject,
+    case: &CelledCase,
+    built: &CelledBuffers,
+    query: &Query,
+) -> Option<Heard> {
+    let (n, params) = (case.n(), case.params);
+    let plain = params.plain;
+    let (codes, mask) = under_mask(query, &built.codes, plain.n_sub, plain.sub_bits, n);
+    let index = CelledIndex {
+        coarse: &built.coarse,
+        starts: &built.starts,
+        members: &built.members,
+        sub_centres: &built.sub_centres,
+        codes: &codes,
+    };
+    let (mask, point) = (&mask[..], &query.point[..]);
+    Lent::new(query.k, plain.n_sub << plain.sub_bits).search(|table, rows, sums| {
+        subject.search_celled(CelledSearch {
+            params, n, index, mask, query: point, table, rows, sums,
+        })
+    })
+}
+
+/// The mask of a query, and the codes as the search is lent them: those of hidden rows are spoiled,
+/// because a hidden row must not matter.
+fn under_mask(
+    query: &Query,
+    codes: &[u8],
+    n_sub: usize,
+    sub_bits: usize,
+    n: usize,
+) -> (Vec<u8>, Vec<u8>) {
+    let mut codes = codes.to_vec();
+    if sub_bits < 8 {
+        for row in (0..n).filter(|&row| !query.sees(row)) {
+            codes[row * n_sub..(row + 1) * n_sub].fill(u8::MAX);
+        }
+    }
+    (codes, query.mask.clone().unwrap_or_else(|| vec![1; n]))
+}
+
+/// The buffers that a search is lent to write.
+struct Lent {
+    table: Vec<f32>,
+    rows: Vec<u32>,
+    sums: Vec<f32>,
+}
+
+impl Lent {
+    fn new(k: usize, table: usize) -> Lent {
+        Lent { table: vec![JUNK_F32; table], rows: vec![JUNK_U32; k], sums: vec![JUNK_F32; k] }
+    }
+
+    fn search(
+        mut self,
+        run: impl FnOnce(&mut [f32], &mut [u32], &mut [f32]) -> Option<Searched>,
+    ) -> Option<Heard> {
+        let answer = run(&mut self.table, &mut self.rows, &mut self.sums)?;
+        Some(Heard { answer, rows: self.rows, sums: self.sums, table: self.table })
+    }
+}

@@ -1,0 +1,152 @@
+//! Counts what a comparison reached, so that its report shows more than that nothing differed.
+
+use seat::PlainParams;
+
+use crate::case::*;
+use crate::original::Verdict;
+
+/// Counts by kind of case, and of the corners reached.
+#[derive(Clone, Default)]
+pub struct Tally {
+    kinds: [OfKind; 3],
+    corners: Vec<(&'static str, usize)>,
+}
+
+/// Counts of one kind.
+#[derive(Clone, Copy, Default)]
+struct OfKind {
+    trained: usize,
+    refused_8: usize,
+    refused_9: usize,
+    searches: usize,
+    refused_11: usize,
+    hiding: usize,
+    outside: usize,
+    left_out: usize,
+}
+
+impl OfKind {
+    fn add(&mut self, other: &OfKind) {
+        self.trained += other.trained;
+        self.refused_8 += other.refused_8;
+        self.refused_9 += other.refused_9;
+        self.searches += other.searches;
+        self.refused_11 += other.refused_11;
+        self.hiding += other.hiding;
+        self.outside += other.outside;
+        self.left_out += other.left_out;
+    }
+}
+
+impl Tally {
+    /// Counts one case; `heard` tells whether the voice has the entry point.
+    pub fn count(&mut self, case: &Case, verdict: &Verdict, outside: usize, heard: bool) {
+        let of_kind = &mut self.kinds[case.kind() as usize];
+        of_kind.outside += outside;
+        if !heard {
+            of_kind.left_out += 1;
+            return;
+        }
+        match verdict {
+            Verdict::Refused(refused) if refused.number == 8 => of_kind.refused_8 += 1,
+            Verdict::Refused(_) => of_kind.refused_9 += 1,
+            Verdict::Outside => of_kind.outside += 1,
+            Verdict::Trained(training) => {
+                of_kind.trained += 1;
+                of_kind.searches += training.results.len();
+                of_kind.refused_11 += training.results.iter().filter(|r| r.is_err()).count();
+                let queries = match case {
+                    Case::Kmeans(_) => &[],
+                    Case::Plain(case) => &case.queries[..],
+                    Case::Celled(case) => &case.queries[..],
+                };
+                of_kind.hiding += queries.iter().filter(|query| query.mask.is_some()).count();
+            }
+        }
+        corners(case).into_iter().for_each(|corner| self.reach(corner, 1));
+    }
+
+    /// Counts a corner.
+    fn reach(&mut self, corner: &'static str, times: usize) {
+        match self.corners.iter_mut().find(|(name, _)| *name == corner) {
+            Some((_, count)) => *count += times,
+            None => self.corners.push((corner, times)),
+        }
+    }
+
+    /// Adds the counts of another.
+    pub fn add(&mut self, other: &Tally) {
+        for (mine, theirs) in self.kinds.iter_mut().zip(&other.kinds) {
+            mine.add(theirs);
+        }
+        for &(corner, times) in &other.corners {
+            self.reach(corner, times);
+        }
+    }
+
+    /// The number of cases compared.
+    pub fn compared(&self) -> usize {
+        self.kinds.iter().map(|k| k.trained + k.refused_8 + k.refused_9).sum()
+    }
+
+    /// Prints the counts, a line for each kind that came up, and a line of corners.
+    pub fn print(&self) {
+        println!("compared {}", self.compared());
+        for kind in Kind::ALL {
+            let k = self.kinds[kind as usize];
+            if k.left_out > 0 {
+                println!("  {}: {} left out, no entry point", kind.name(), k.left_out);
+            }
+            if k.trained + k.refused_8 + k.refused_9 == 0 {
+                continue;
+            }
+            println!(
+                "  {}: trained {}, refused 8 {}, refused 9 {}; searches {}, of them refused 11 {}, hiding rows {}; drafts outside the domain {}",
+                kind.name(), k.trained, k.refused_8, k.refused_9, k.searches, k.refused_11, k.hiding, k.outside
+            );
+        }
+        let mut corners = self.corners.clone();
+        corners.sort();
+        let list: Vec<String> = corners.iter().map(|(name, count)| format!("{name}: {count}")).collect();
+        println!("  corners: {}", list.join(", "));
+    }
+}
+
+/// The corners that a case is at.
+fn corners(case: &Case) -> Vec<&'static str> {
+    let mut list = Vec::new();
+    let mut at = |holds: bool, name: &'static str| {
+        if holds {
+            list.push(name);
+        }
+    };
+    match case {
+        Case::Kmeans(case) => {
+            at(case.epochs == 0, "0 epochs");
+            at(case.d == 256, "D 256");
+            at(case.end - case.begin > 64, "range past 64");
+            at(case.residual.is_some(), "residual");
+            at(case.n_center >= 256, "256 centres or more");
+        }
+        Case::Plain(case) => index_corners(case.params, case.epochs, &mut at),
+        Case::Celled(case) => {
+            index_corners(case.params.plain, case.epochs, &mut at);
+            at(case.params.cells == 40, "cells 40");
+            at(case.params.cells == 1024, "cells 1024");
+            at(case.params.cells > 4 && case.epochs > 1, "cells above 4, epochs above 1");
+            at(case.params.cells == 40 && case.epochs > 1, "cells 40, epochs above 1");
+        }
+    }
+    list
+}
+
+/// The corners of an index's parameters.
+fn index_corners(params: PlainParams, epochs: usize, at: &mut impl FnMut(bool, &'static str)) {
+    at(epochs == 0, "0 epochs");
+    at(params.d == 1, "D 1");
+    at(params.d == 256, "D 256");
+    at(params.n_sub == 64, "n_sub 64");
+    at(params.sub_bits == 0, "sub_bits 0");
+    at(params.sub_bits == 8, "sub_bits 8");
+    at(page::covered(params.d, params.n_sub) < params.d, "C below D");
+}
