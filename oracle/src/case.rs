@@ -21,13 +21,20 @@ pub struct KmeansCase {
 pub struct Query {
     pub point: Vec<f32>,
     pub k: usize,
-    pub mask: Option<Vec<u8>>,
+    pub mask: Option<Mask>,
+}
+
+/// A mask that hides rows; `spoil` says to damage the codes of hidden rows, which must not matter.
+#[derive(Clone, Debug)]
+pub struct Mask {
+    pub visible: Vec<u8>,
+    pub spoil: bool,
 }
 
 impl Query {
     /// Whether a row is visible.
     pub fn sees(&self, row: usize) -> bool {
-        self.mask.as_ref().is_none_or(|mask| mask[row] != 0)
+        self.mask.as_ref().is_none_or(|mask| mask.visible[row] != 0)
     }
 }
 
@@ -41,14 +48,12 @@ pub struct PlainCase {
     pub queries: Vec<Query>,
 }
 
-/// A training and the searches after it.
+/// The same for a celled index.
 #[derive(Clone, Debug)]
 pub struct CelledCase {
-    pub params: CelledParams,
-    pub epochs: usize,
-    pub rows: Vec<f32>,
-    pub draws: Vec<f64>,
-    pub queries: Vec<Query>,
+    pub plain: PlainCase,
+    pub cells: usize,
+    pub probes: usize,
 }
 
 impl PlainCase {
@@ -59,9 +64,9 @@ impl PlainCase {
 }
 
 impl CelledCase {
-    /// The number of rows.
-    pub fn n(&self) -> usize {
-        self.rows.len() / self.params.plain.d
+    /// All parameters of the index.
+    pub fn params(&self) -> CelledParams {
+        CelledParams { plain: self.plain.params, cells: self.cells, probes: self.probes }
     }
 }
 
@@ -109,7 +114,7 @@ impl Case {
         match self {
             Case::Kmeans(case) => &mut case.draws,
             Case::Plain(case) => &mut case.draws,
-            Case::Celled(case) => &mut case.draws,
+            Case::Celled(case) => &mut case.plain.draws,
         }
     }
 }

@@ -2,8 +2,8 @@
 //! they hold afterwards.
 
 use seat::{
-    CelledIndex, CelledSearch, CelledTraining, Kmeans, PlainSearch, PlainTraining, Searched,
-    Subject, Trained,
+    CelledIndex, CelledSearch, CelledTraining, Kmeans, PlainParams, PlainSearch, PlainTraining,
+    Searched, Subject, Trained,
 };
 
 use crate::case::*;
@@ -78,7 +78,7 @@ fn hear_plain(subject: &dyn Subject, case: &PlainCase) -> Option<Reply> {
     let mut searches = Vec::new();
     if answer.is_ok() {
         for query in &case.queries {
-            let (codes, mask) = under_mask(query, &codes, params.n_sub, params.sub_bits, n);
+            let (codes, mask) = under_mask(query, &codes, params, n);
             let lent = Lent::new(query.k, params.n_sub << params.sub_bits);
             searches.push(lent.search(|table, rows, sums| {
                 let (sub_centres, codes, mask) = (&sub_centres[..], &codes[..], &mask[..]);
@@ -107,14 +107,14 @@ struct CelledBuffers {
 
 impl CelledBuffers {
     fn new(case: &CelledCase) -> CelledBuffers {
-        let (plain, cells) = (case.params.plain, case.params.cells);
+        let (n, plain, cells) = (case.plain.n(), case.plain.params, case.cells);
         let covered = page::covered(plain.d, plain.n_sub);
         CelledBuffers {
             coarse: vec![JUNK_F32; cells * plain.d],
             starts: vec![JUNK_U32; cells + 1],
-            members: vec![JUNK_U32; case.n()],
+            members: vec![JUNK_U32; n],
             sub_centres: vec![JUNK_F32; (cells * covered) << plain.sub_bits],
-            codes: vec![JUNK_U8; case.n() * plain.n_sub],
+            codes: vec![JUNK_U8; n * plain.n_sub],
         }
     }
 
@@ -130,15 +130,15 @@ impl CelledBuffers {
 }
 
 fn hear_celled(subject: &dyn Subject, case: &CelledCase) -> Option<Reply> {
-    let (n, params) = (case.n(), case.params);
+    let (n, params) = (case.plain.n(), case.params());
     let mut lent = CelledBuffers::new(case);
     let mut work = vec![JUNK_U32; n + 1024];
     let answer = subject.train_celled(CelledTraining {
         params,
-        epochs: case.epochs,
+        epochs: case.plain.epochs,
         n,
-        rows: &case.rows,
-        draws: &case.draws,
+        rows: &case.plain.rows,
+        draws: &case.plain.draws,
         coarse: &mut lent.coarse,
         starts: &mut lent.starts,
         members: &mut lent.members,
@@ -148,7 +148,7 @@ fn hear_celled(subject: &dyn Subject, case: &CelledCase) -> Option<Reply> {
     })?;
     let mut searches = Vec::new();
     if answer.is_ok() {
-        for query in &case.queries {
+        for query in &case.plain.queries {
             searches.push(search_celled(subject, case, &lent, query)?);
         }
     }
@@ -161,9 +161,9 @@ fn search_celled(
     built: &CelledBuffers,
     query: &Query,
 ) -> Option<Heard> {
-    let (n, params) = (case.n(), case.params);
+    let (n, params) = (case.plain.n(), case.params());
     let plain = params.plain;
-    let (codes, mask) = under_mask(query, &built.codes, plain.n_sub, plain.sub_bits, n);
+    let (codes, mask) = under_mask(query, &built.codes, plain, n);
     let index = CelledIndex {
         coarse: &built.coarse,
         starts: &built.starts,
@@ -179,22 +179,19 @@ fn search_celled(
     })
 }
 
-/// The mask of a query, and the codes as the search is lent them: those of hidden rows are spoiled,
-/// because a hidden row must not matter.
-fn under_mask(
-    query: &Query,
-    codes: &[u8],
-    n_sub: usize,
-    sub_bits: usize,
-    n: usize,
-) -> (Vec<u8>, Vec<u8>) {
+/// The codes as a search is lent them, and its mask. The codes of hidden rows are spoiled where the
+/// query says so and a byte can hold a code that is none.
+fn under_mask(query: &Query, codes: &[u8], params: PlainParams, n: usize) -> (Vec<u8>, Vec<u8>) {
     let mut codes = codes.to_vec();
-    if sub_bits < 8 {
+    let Some(mask) = &query.mask else {
+        return (codes, vec![1; n]);
+    };
+    if mask.spoil && params.sub_bits < 8 {
         for row in (0..n).filter(|&row| !query.sees(row)) {
-            codes[row * n_sub..(row + 1) * n_sub].fill(u8::MAX);
+            codes[row * params.n_sub..(row + 1) * params.n_sub].fill(u8::MAX);
         }
     }
-    (codes, query.mask.clone().unwrap_or_else(|| vec![1; n]))
+    (codes, mask.visible.clone())
 }
 
 /// The buffers that a search is lent to write.

@@ -1,7 +1,7 @@
 //! Random cases over document 01's differential domain: mostly small, with a tail of large ones, and
 //! rows among which ties, duplicates and overflow really happen.
 
-use seat::{CelledParams, PlainParams};
+use seat::PlainParams;
 
 use crate::case::*;
 use crate::chance::Chance;
@@ -54,6 +54,12 @@ const GRAINS: [Grain; 13] = [
     Grain::Mixed,
 ];
 
+/// The most draws that a case is drafted with.
+const MOST_DRAWS: usize = 2_000_000;
+
+/// What one donor step counts in a case's budget; it stands for the memory of its draw too.
+const DONOR_STEP: usize = 150;
+
 /// A coordinate of a grain.
 pub fn coordinate(chance: &mut Chance, grain: Grain) -> f32 {
     match grain {
@@ -96,8 +102,10 @@ pub fn rows(chance: &mut Chance, grain: Grain, n: usize, d: usize) -> Vec<f32> {
     rows
 }
 
-/// Draws of one of several manners; `n` is the number of rows, so that a draw can equal count/n.
-pub fn draws(chance: &mut Chance, count: usize, n: usize) -> Vec<f64> {
+/// More draws than the donor steps expected, of one of several manners; `n` is the number of rows, so
+/// that a draw can equal count/n.
+fn draws(chance: &mut Chance, steps: usize, n: usize) -> Vec<f64> {
+    let count = (64 + 3 * steps).min(MOST_DRAWS);
     let manner = chance.below(8);
     let draw = |_| match manner {
         0..=2 => chance.unit(),
@@ -148,18 +156,18 @@ fn plain_params(chance: &mut Chance) -> PlainParams {
     PlainParams { d, n_sub, sub_bits }
 }
 
-/// Nanoseconds that a case may take, roughly: mostly three milliseconds.
+/// Nanoseconds that a case may take, roughly: mostly six milliseconds.
 fn budget(chance: &mut Chance) -> usize {
     match chance.below(100) {
-        0..=89 => 3_000_000,
-        90..=98 => 30_000_000,
-        _ => 300_000_000,
+        0..=89 => 6_000_000,
+        90..=98 => 60_000_000,
+        _ => 600_000_000,
     }
 }
 
 /// Nanoseconds that one k-means takes, roughly.
 fn kmeans_cost(n: usize, n_center: usize, width: usize, epochs: usize) -> usize {
-    2 * n * n_center * (epochs + 1) * (50 + width) + 12 * donor_steps(n_center, epochs)
+    2 * n * n_center * (epochs + 1) * (50 + width) + DONOR_STEP * donor_steps(n_center, epochs)
 }
 
 /// Donor steps that one k-means takes, roughly, at most.
@@ -187,7 +195,7 @@ fn kmeans(chance: &mut Chance) -> KmeansCase {
     let rows = rows(chance, grain, n, d);
     let members = members(chance, n);
     let residual = chance.one_in(2).then(|| (0..d).map(|_| coordinate(chance, grain)).collect());
-    let draws = draws(chance, 64 + 3 * donor_steps(n_center, epochs), members.len());
+    let draws = draws(chance, donor_steps(n_center, epochs), members.len());
     KmeansCase { d, rows, members, begin, end, residual, n_center, epochs, draws }
 }
 
@@ -221,7 +229,7 @@ fn plain(chance: &mut Chance) -> PlainCase {
     let grain = chance.pick(&GRAINS);
     let rows = rows(chance, grain, n, params.d);
     let steps = params.n_sub * donor_steps(1 << params.sub_bits, epochs);
-    let draws = draws(chance, 64 + 3 * steps, n);
+    let draws = draws(chance, steps, n);
     let queries = queries(chance, grain, &rows, params.d);
     PlainCase { params, epochs, rows, draws, queries }
 }
@@ -258,10 +266,10 @@ fn celled(chance: &mut Chance) -> CelledCase {
     let grain = if many { Grain::Near } else { chance.pick(&GRAINS) };
     let rows = rows(chance, grain, n, plain.d);
     let steps = donor_steps(cells, epochs) + cells * plain.n_sub * donor_steps(1 << plain.sub_bits, epochs);
-    let draws = draws(chance, 64 + 3 * steps, n);
+    let draws = draws(chance, steps, n);
     let queries = queries(chance, grain, &rows, plain.d);
     let probes = chance.pick(&[1, cells.min(8), cells, cells.div_ceil(2)]);
-    CelledCase { params: CelledParams { plain, cells, probes }, epochs, rows, draws, queries }
+    CelledCase { plain: PlainCase { params: plain, epochs, rows, draws, queries }, cells, probes }
 }
 
 /// Nanoseconds that the training of a celled index takes, roughly.
@@ -269,7 +277,7 @@ fn celled_cost(plain: PlainParams, cells: usize, n: usize, epochs: usize) -> usi
     let words = cells * (plain.d << plain.sub_bits);
     let donors = (cells - 1) * plain.n_sub * donor_steps(1 << plain.sub_bits, epochs);
     let coarse = kmeans_cost(n, cells, plain.d, epochs);
-    coarse + plain_cost(plain, n, epochs) + 12 * donors + 10 * words
+    coarse + plain_cost(plain, n, epochs) + DONOR_STEP * donors + 10 * words
 }
 
 /// Some queries: rows themselves, rows with a coordinate changed, and new points. Some hide rows.
@@ -299,9 +307,11 @@ fn queries(chance: &mut Chance, grain: Grain, rows: &[f32], d: usize) -> Vec<Que
 }
 
 /// A mask: some rows hidden, at times all of them.
-fn mask(chance: &mut Chance, n: usize) -> Vec<u8> {
+fn mask(chance: &mut Chance, n: usize) -> Mask {
     let shown = chance.below(4);
-    (0..n).map(|_| if chance.below(4) < shown { chance.between(1, 255) as u8 } else { 0 }).collect()
+    let mut byte = |_| if chance.below(4) < shown { chance.between(1, 255) as u8 } else { 0 };
+    let visible = (0..n).map(&mut byte).collect();
+    Mask { visible, spoil: chance.one_in(2) }
 }
 
 /// A case of a kind, decided by its seed alone, with more draws than it needs.

@@ -268,18 +268,18 @@ fn plain_buffers(index: &PQIndex<f32, usize>, case: &PlainCase) -> Vec<Buffer> {
 
 /// The first refusal of a celled index's k-means, or that an empty cell puts it outside.
 fn step_celled(case: &CelledCase) -> Result<(), Verdict> {
-    let CelledParams { plain, cells, .. } = case.params;
-    rand::lend_list(&case.draws);
-    let rows = vectors(&case.rows, plain.d);
-    let mut coarse = Kmean::new(rows.clone(), [0, plain.d], None, cells, case.epochs);
+    let PlainCase { params, epochs, .. } = case.plain;
+    rand::lend_list(&case.plain.draws);
+    let rows = vectors(&case.plain.rows, params.d);
+    let mut coarse = Kmean::new(rows.clone(), [0, params.d], None, case.cells, epochs);
     let cell_of_row = coarse.stepped(Stage::Coarse).map_err(Verdict::Refused)?;
-    for cell in 0..cells {
+    for cell in 0..case.cells {
         let chosen = rows.iter().zip(&cell_of_row).filter(|(_, &c)| c == cell);
         let members: Vec<Vec<f32>> = chosen.map(|(row, _)| row.clone()).collect();
         if !members.is_empty() {
             let residual = Some(&coarse.kmeans.centers()[cell][..]);
-            step_cell(plain, case.epochs, cell, &members, residual)?;
-        } else if case.epochs != 1 {
+            step_cell(params, epochs, cell, &members, residual)?;
+        } else if epochs != 1 {
             return Err(Verdict::Outside);
         }
     }
@@ -288,36 +288,36 @@ fn step_celled(case: &CelledCase) -> Result<(), Verdict> {
 
 /// A celled index: training and searches.
 fn judge_celled(case: &CelledCase) -> Verdict {
-    if may_overflow(&case.rows) {
+    if may_overflow(&case.plain.rows) {
         if let Err(verdict) = step_celled(case) {
             return verdict;
         }
     }
-    rand::lend_list(&case.draws);
+    rand::lend_list(&case.plain.draws);
     let run = catch(|| {
-        let mut index = celled_index(case.params, case.epochs);
-        fill(&mut index, &case.rows);
+        let mut index = celled_index(case.params(), case.plain.epochs);
+        fill(&mut index, &case.plain.rows);
         index
     });
     let index = match run {
         Ok(index) => index,
         Err(panic) => return verdict(Err(panic), || step_celled(case)),
     };
-    if case.epochs != 1 && reach::lists(&index).iter().any(Vec::is_empty) {
+    if case.plain.epochs != 1 && reach::lists(&index).iter().any(Vec::is_empty) {
         return Verdict::Outside;
     }
     let draws_used = rand::used();
     let search = |query| search_celled(&index, case, query);
-    let results = case.queries.iter().map(search).collect();
-    Verdict::Trained(Training { draws_used, buffers: celled_buffers(&index, case), results })
+    let results = case.plain.queries.iter().map(search).collect();
+    Verdict::Trained(Training { draws_used, buffers: celled_buffers(&index, &case.plain), results })
 }
 
 /// The five buffers of a celled index.
-fn celled_buffers(index: &IVFPQIndex<f32, usize>, case: &CelledCase) -> Vec<Buffer> {
+fn celled_buffers(index: &IVFPQIndex<f32, usize>, case: &PlainCase) -> Vec<Buffer> {
     let lists = reach::lists(index);
     let mut starts = vec![0];
     let mut sub_centres = Vec::new();
-    let mut codes = vec![0; case.n() * case.params.plain.n_sub];
+    let mut codes = vec![0; case.n() * case.params.n_sub];
     for (list, cell) in lists.iter().zip(reach::cells(index)) {
         starts.push(starts[starts.len() - 1] + list.len() as u32);
         sub_centres.extend(flat_sub_centres(cell));
@@ -362,16 +362,16 @@ fn search_celled(
     let node = Node::new(&query.point);
     let distances = reach::coarse_distances(index, &node);
     all_finite(&distances)?;
-    let mut order: Vec<usize> = (0..case.params.cells).collect();
+    let mut order: Vec<usize> = (0..case.cells).collect();
     order.sort_by(|&a, &b| distances[a].total_cmp(&distances[b]).then(a.cmp(&b)));
-    let probed = &order[..case.params.probes];
+    let probed = &order[..case.probes];
     for &cell in probed {
         if reach::lists(index)[cell].iter().any(|&row| query.sees(row)) {
             all_finite(&reach::table(&reach::cells(index)[cell], &node))?;
         }
     }
     let in_probed = probed.iter().map(|&cell| reach::lists(index)[cell].len()).sum();
-    results(index, case.n(), in_probed, query)
+    results(index, case.plain.n(), in_probed, query)
 }
 
 /// The Rust's own search. Where rows are hidden, it is asked for all rows, and the hidden ones are

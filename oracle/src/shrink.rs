@@ -1,18 +1,25 @@
 //! Makes a case that shows a difference as small as it can, step by step, as long as the difference
 //! stays.
 
+use std::ops::Range;
+
 use crate::case::*;
 
 /// How many smaller cases are tried in all.
 const TRIES: usize = 4000;
 
+/// A step that makes a case smaller or plainer.
+type Change<'a, T> = Box<dyn Fn(&mut T) + 'a>;
+
 /// The smallest case found that still fails.
 pub fn shrink(mut case: Case, fails: &dyn Fn(&Case) -> bool) -> Case {
     let mut tries = 0;
     loop {
-        let next = smaller(&case).into_iter().find(|smaller| {
+        let next = changes(&case).into_iter().find_map(|change| {
             tries += 1;
-            tries <= TRIES && fails(smaller)
+            let mut smaller = case.clone();
+            change(&mut smaller);
+            (tries <= TRIES && fails(&smaller)).then_some(smaller)
         });
         match next {
             Some(found) => case = found,
@@ -21,25 +28,47 @@ pub fn shrink(mut case: Case, fails: &dyn Fn(&Case) -> bool) -> Case {
     }
 }
 
-/// Cases one step smaller, the largest steps first.
-fn smaller(case: &Case) -> Vec<Case> {
+/// The steps that a case allows, the largest first.
+fn changes(case: &Case) -> Vec<Change<'_, Case>> {
     match case {
-        Case::Kmeans(case) => smaller_kmeans(case).into_iter().map(Case::Kmeans).collect(),
-        Case::Plain(case) => smaller_plain(case).into_iter().map(Case::Plain).collect(),
-        Case::Celled(case) => smaller_celled(case).into_iter().map(Case::Celled).collect(),
+        Case::Kmeans(case) => raised(kmeans(case), |case| match case {
+            Case::Kmeans(case) => case,
+            _ => unreachable!("a change keeps the kind"),
+        }),
+        Case::Plain(case) => raised(plain(case), |case| match case {
+            Case::Plain(case) => case,
+            _ => unreachable!("a change keeps the kind"),
+        }),
+        Case::Celled(case) => raised(celled(case), |case| match case {
+            Case::Celled(case) => case,
+            _ => unreachable!("a change keeps the kind"),
+        }),
     }
 }
 
-/// Numbers below `value` and not below `least`: the least, half, one less.
-fn lower(value: usize, least: usize) -> Vec<usize> {
-    let mut list = vec![least, value / 2, value.saturating_sub(1)];
-    list.retain(|&x| least <= x && x < value);
-    list.dedup();
-    list
+/// Steps on a part, as steps on the whole.
+fn raised<'a, W: 'a, P: 'a>(list: Vec<Change<'a, P>>, part: fn(&mut W) -> &mut P) -> Vec<Change<'a, W>> {
+    let raise = |change: Change<'a, P>| -> Change<'a, W> { Box::new(move |whole| change(part(whole))) };
+    list.into_iter().map(raise).collect()
+}
+
+/// Steps that set one number lower: to the least, to half, to one less.
+fn lower<'a, T: 'a>(
+    list: &mut Vec<Change<'a, T>>,
+    value: usize,
+    least: usize,
+    set: impl Fn(&mut T, usize) + Copy + 'a,
+) {
+    let mut tried = vec![least, value / 2, value.saturating_sub(1)];
+    tried.retain(|&x| least <= x && x < value);
+    tried.dedup();
+    for x in tried {
+        list.push(Box::new(move |case| set(case, x)));
+    }
 }
 
 /// Stretches of 0..n to leave out: halves, quarters, down to single ones.
-fn cuts(n: usize) -> Vec<std::ops::Range<usize>> {
+fn cuts(n: usize) -> Vec<Range<usize>> {
     let mut list = Vec::new();
     let mut length = n / 2;
     while length > 0 {
@@ -49,10 +78,31 @@ fn cuts(n: usize) -> Vec<std::ops::Range<usize>> {
     list
 }
 
-/// Rows without those of a stretch.
-fn without_rows(rows: &[f32], d: usize, cut: &std::ops::Range<usize>) -> Vec<f32> {
-    let kept = rows.chunks_exact(d).enumerate().filter(|(row, _)| !cut.contains(row));
-    kept.flat_map(|(_, row)| row.to_vec()).collect()
+/// Steps that put a plainer number at one place of a list. Only short lists are looked at.
+fn plainer<'a, T: 'a, X: Copy + PartialEq + 'a>(
+    list: &mut Vec<Change<'a, T>>,
+    numbers: &[X],
+    plain: impl Fn(X) -> Vec<X>,
+    reach: impl Fn(&mut T) -> &mut [X] + Copy + 'a,
+) {
+    if numbers.len() > 64 {
+        return;
+    }
+    for (at, &x) in numbers.iter().enumerate() {
+        for y in plain(x).into_iter().take_while(|&y| y != x) {
+            list.push(Box::new(move |case| reach(case)[at] = y));
+        }
+    }
+}
+
+/// Plainer numbers in place of a coordinate, the plainest first, itself last.
+fn plain_f32(x: f32) -> Vec<f32> {
+    vec![0.0, 1.0, x.round(), f32::from_bits(x.to_bits() & 0xffff_0000), x]
+}
+
+/// Plainer draws, itself last.
+fn plain_f64(x: f64) -> Vec<f64> {
+    vec![0.0, 0.5, x]
 }
 
 /// Rows with their first `d` coordinates only.
@@ -60,171 +110,105 @@ fn narrowed(rows: &[f32], from: usize, d: usize) -> Vec<f32> {
     rows.chunks_exact(from).flat_map(|row| row[..d].to_vec()).collect()
 }
 
-/// Lists with one number made plainer: 0, 1 or rounded. Only short lists are looked at.
-fn plainer<T: Copy + PartialEq>(list: &[T], plain: impl Fn(T) -> Vec<T>) -> Vec<Vec<T>> {
-    let mut lists = Vec::new();
-    if list.len() <= 64 {
-        for (at, &x) in list.iter().enumerate() {
-            for y in plain(x).into_iter().take_while(|&y| y != x) {
-                let mut changed = list.to_vec();
-                changed[at] = y;
-                lists.push(changed);
-            }
-        }
-    }
-    lists
-}
-
-/// Plainer numbers in place of a coordinate, the plainest first.
-fn plain_f32(x: f32) -> Vec<f32> {
-    let mut list = vec![0.0, 1.0, x.round(), f32::from_bits(x.to_bits() & 0xffff_0000), x];
-    list.retain(|y| y.is_finite());
-    list
-}
-
-/// Plainer draws.
-fn plain_f64(x: f64) -> Vec<f64> {
-    vec![0.0, 0.5, x]
-}
-
-fn smaller_kmeans(case: &KmeansCase) -> Vec<KmeansCase> {
-    let mut list = Vec::new();
-    let mut push = |change: &dyn Fn(&mut KmeansCase)| {
-        let mut smaller = case.clone();
-        change(&mut smaller);
-        list.push(smaller);
-    };
+fn kmeans(case: &KmeansCase) -> Vec<Change<'_, KmeansCase>> {
+    let mut list: Vec<Change<KmeansCase>> = Vec::new();
     for cut in cuts(case.members.len()) {
-        push(&|c| drop(c.members.drain(cut.clone())));
+        list.push(Box::new(move |c| drop(c.members.drain(cut.clone()))));
     }
-    lower(case.n_center, 1).into_iter().for_each(|x| push(&|c| c.n_center = x));
-    lower(case.epochs, 0).into_iter().for_each(|x| push(&|c| c.epochs = x));
-    lower(case.end, case.begin + 1).into_iter().for_each(|x| push(&|c| c.end = x));
+    lower(&mut list, case.n_center, 1, |c, x| c.n_center = x);
+    lower(&mut list, case.epochs, 0, |c, x| c.epochs = x);
+    lower(&mut list, case.end, case.begin + 1, |c, x| c.end = x);
     if case.residual.is_some() {
-        push(&|c| c.residual = None);
+        list.push(Box::new(|c| c.residual = None));
     }
     if case.begin > 0 {
-        push(&|c| (c.begin, c.end) = (0, c.end - c.begin));
+        list.push(Box::new(|c| (c.begin, c.end) = (0, c.end - c.begin)));
     }
-    push_unused_away(case, &mut push);
-    for rows in plainer(&case.rows, plain_f32) {
-        push(&|c| c.rows = rows.clone());
-    }
-    for residual in plainer(case.residual.as_deref().unwrap_or(&[]), plain_f32) {
-        push(&|c| c.residual = Some(residual.clone()));
-    }
-    for draws in smaller_draws(&case.draws) {
-        push(&|c| c.draws = draws.clone());
-    }
-    list
-}
-
-/// Drops rows that are no members, and coordinates past the range.
-fn push_unused_away(case: &KmeansCase, push: &mut dyn FnMut(&dyn Fn(&mut KmeansCase))) {
     if case.members.len() * case.d < case.rows.len() {
-        push(&|c| {
-            let row = |&row: &u32| c.rows[row as usize * c.d..][..c.d].to_vec();
-            c.rows = c.members.iter().flat_map(row).collect();
-            c.members = (0..c.members.len() as u32).collect();
-        });
+        list.push(Box::new(without_strangers));
     }
     if case.end < case.d {
-        push(&|c| {
-            c.rows = narrowed(&c.rows, c.d, c.end);
-            c.residual = c.residual.as_ref().map(|residual| residual[..c.end].to_vec());
-            c.d = c.end;
-        });
+        list.push(Box::new(without_the_end));
     }
-}
-
-/// Fewer draws, or plainer ones.
-fn smaller_draws(draws: &[f64]) -> Vec<Vec<f64>> {
-    let shorter = lower(draws.len(), 0).into_iter().map(|length| draws[..length].to_vec());
-    shorter.chain(plainer(draws, plain_f64)).collect()
-}
-
-/// A mask without the rows of a stretch.
-fn cut_mask(query: &mut Query, cut: &std::ops::Range<usize>) {
-    if let Some(mask) = &mut query.mask {
-        mask.drain(cut.clone());
-    }
-}
-
-/// Fewer or plainer queries.
-fn smaller_queries(queries: &[Query]) -> Vec<Vec<Query>> {
-    let mut list: Vec<Vec<Query>> = (0..queries.len()).map(|at| vec![queries[at].clone()]).collect();
-    if queries.len() == 1 {
-        list = vec![Vec::new()];
-        let query = &queries[0];
-        let mut one = |query| list.push(vec![query]);
-        lower(query.k, 0).into_iter().for_each(|k| one(Query { k, ..query.clone() }));
-        if query.mask.is_some() {
-            one(Query { mask: None, ..query.clone() });
-        }
-        for point in plainer(&query.point, plain_f32) {
-            one(Query { point, ..query.clone() });
-        }
-    }
+    lower(&mut list, case.draws.len(), 0, |c, x| c.draws.truncate(x));
+    plainer(&mut list, &case.rows, plain_f32, |c| &mut c.rows);
+    let residual = case.residual.as_deref().unwrap_or(&[]);
+    plainer(&mut list, residual, plain_f32, |c| c.residual.as_deref_mut().unwrap_or(&mut []));
+    plainer(&mut list, &case.draws, plain_f64, |c| &mut c.draws);
     list
 }
 
-fn smaller_plain(case: &PlainCase) -> Vec<PlainCase> {
-    let mut list = Vec::new();
-    let mut push = |change: &dyn Fn(&mut PlainCase)| {
-        let mut smaller = case.clone();
-        change(&mut smaller);
-        list.push(smaller);
-    };
-    let params = case.params;
+/// Drops rows that are no members.
+fn without_strangers(case: &mut KmeansCase) {
+    let row = |&row: &u32| case.rows[row as usize * case.d..][..case.d].to_vec();
+    case.rows = case.members.iter().flat_map(row).collect();
+    case.members = (0..case.members.len() as u32).collect();
+}
+
+/// Drops coordinates past the range.
+fn without_the_end(case: &mut KmeansCase) {
+    case.rows = narrowed(&case.rows, case.d, case.end);
+    if let Some(residual) = &mut case.residual {
+        residual.truncate(case.end);
+    }
+    case.d = case.end;
+}
+
+fn plain(case: &PlainCase) -> Vec<Change<'_, PlainCase>> {
+    let mut list: Vec<Change<PlainCase>> = Vec::new();
     for cut in cuts(case.n()) {
-        push(&|c| {
-            c.rows = without_rows(&c.rows, params.d, &cut);
-            c.queries.iter_mut().for_each(|query| cut_mask(query, &cut));
-        });
+        list.push(Box::new(move |c| without_rows(c, &cut)));
     }
-    lower(params.n_sub, 1).into_iter().for_each(|x| push(&|c| c.params.n_sub = x));
-    lower(params.sub_bits, 0).into_iter().for_each(|x| push(&|c| c.params.sub_bits = x));
-    lower(case.epochs, 0).into_iter().for_each(|x| push(&|c| c.epochs = x));
-    for d in lower(params.d, params.n_sub) {
-        push(&|c| {
-            c.rows = narrowed(&c.rows, params.d, d);
-            c.queries.iter_mut().for_each(|query| query.point.truncate(d));
-            c.params.d = d;
-        });
-    }
-    for queries in smaller_queries(&case.queries) {
-        push(&|c| c.queries = queries.clone());
-    }
-    for rows in plainer(&case.rows, plain_f32) {
-        push(&|c| c.rows = rows.clone());
-    }
-    for draws in smaller_draws(&case.draws) {
-        push(&|c| c.draws = draws.clone());
-    }
+    queries(&mut list, &case.queries);
+    lower(&mut list, case.params.n_sub, 1, |c, x| c.params.n_sub = x);
+    lower(&mut list, case.params.sub_bits, 0, |c, x| c.params.sub_bits = x);
+    lower(&mut list, case.epochs, 0, |c, x| c.epochs = x);
+    lower(&mut list, case.params.d, case.params.n_sub, narrow);
+    lower(&mut list, case.draws.len(), 0, |c, x| c.draws.truncate(x));
+    plainer(&mut list, &case.rows, plain_f32, |c| &mut c.rows);
+    plainer(&mut list, &case.draws, plain_f64, |c| &mut c.draws);
     list
 }
 
-/// The steps of a plain case, and those on cells and probes.
-fn smaller_celled(case: &CelledCase) -> Vec<CelledCase> {
-    let CelledCase { params, epochs, rows, draws, queries } = case.clone();
-    let mut list = Vec::new();
-    for cells in lower(params.cells, 1) {
-        let mut smaller = case.clone();
-        smaller.params.cells = cells;
-        smaller.params.probes = params.probes.min(cells);
-        list.push(smaller);
+/// Drops rows, also from the masks.
+fn without_rows(case: &mut PlainCase, cut: &Range<usize>) {
+    let d = case.params.d;
+    case.rows.drain(cut.start * d..cut.end * d);
+    for mask in case.queries.iter_mut().filter_map(|query| query.mask.as_mut()) {
+        mask.visible.drain(cut.clone());
     }
-    for probes in lower(params.probes, 1) {
-        let mut smaller = case.clone();
-        smaller.params.probes = probes;
-        list.push(smaller);
+}
+
+/// Drops coordinates from `d` on.
+fn narrow(case: &mut PlainCase, d: usize) {
+    case.rows = narrowed(&case.rows, case.params.d, d);
+    case.queries.iter_mut().for_each(|query| query.point.truncate(d));
+    case.params.d = d;
+}
+
+/// Fewer or plainer queries: one of several, or none; then a plainer one.
+fn queries<'a>(list: &mut Vec<Change<'a, PlainCase>>, queries: &'a [Query]) {
+    if !queries.is_empty() {
+        list.push(Box::new(|c| c.queries.clear()));
     }
-    let plain = PlainCase { params: params.plain, epochs, rows, draws, queries };
-    list.extend(smaller_plain(&plain).into_iter().map(|smaller| {
-        let mut params = params;
-        params.plain = smaller.params;
-        let PlainCase { epochs, rows, draws, queries, .. } = smaller;
-        CelledCase { params, epochs, rows, draws, queries }
-    }));
+    if queries.len() > 1 {
+        for query in queries {
+            list.push(Box::new(move |c| c.queries = vec![query.clone()]));
+        }
+    }
+    if let [query] = queries {
+        lower(list, query.k, 0, |c, k| c.queries[0].k = k);
+        if query.mask.is_some() {
+            list.push(Box::new(|c| c.queries[0].mask = None));
+        }
+        plainer(list, &query.point, plain_f32, |c| &mut c.queries[0].point);
+    }
+}
+
+fn celled(case: &CelledCase) -> Vec<Change<'_, CelledCase>> {
+    let mut list: Vec<Change<CelledCase>> = Vec::new();
+    lower(&mut list, case.cells, 1, |c, x| (c.cells, c.probes) = (x, c.probes.min(x)));
+    lower(&mut list, case.probes, 1, |c, x| c.probes = x);
+    list.extend(raised(plain(&case.plain), |case: &mut CelledCase| &mut case.plain));
     list
 }

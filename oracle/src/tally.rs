@@ -58,7 +58,7 @@ impl Tally {
                 let queries = match case {
                     Case::Kmeans(_) => &[],
                     Case::Plain(case) => &case.queries[..],
-                    Case::Celled(case) => &case.queries[..],
+                    Case::Celled(case) => &case.plain.queries[..],
                 };
                 of_kind.hiding += queries.iter().filter(|query| query.mask.is_some()).count();
             }
@@ -130,11 +130,12 @@ fn corners(case: &Case) -> Vec<&'static str> {
         }
         Case::Plain(case) => index_corners(case.params, case.epochs, &mut at),
         Case::Celled(case) => {
-            index_corners(case.params.plain, case.epochs, &mut at);
-            at(case.params.cells == 40, "cells 40");
-            at(case.params.cells == 1024, "cells 1024");
-            at(case.params.cells > 4 && case.epochs > 1, "cells above 4, epochs above 1");
-            at(case.params.cells == 40 && case.epochs > 1, "cells 40, epochs above 1");
+            index_corners(case.plain.params, case.plain.epochs, &mut at);
+            let many = case.plain.epochs > 1;
+            at(case.cells == 40, "cells 40");
+            at(case.cells == 1024, "cells 1024");
+            at(case.cells > 4 && many, "cells above 4, epochs above 1");
+            at(case.cells == 40 && many, "cells 40, epochs above 1");
         }
     }
     list

@@ -1,1 +1,2 @@
 pub mod Kmeans
+pub mod Frame

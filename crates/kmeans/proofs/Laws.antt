@@ -1,0 +1,83 @@
+-- Laws on the definitions of k-means.
+use Prim.Native.Nat.{ℕ, zero, suc, _+_, _*_, _-_, _≤_, _<_}
+use mathlib.Core.Path.{_≡_, refl, sym, _∙_, ap, ap₂}
+use mathlib.Core.Bool.{Bool, true, false, cond}
+use mathlib.Core.List.{List}
+use native.Mathlib.Omega.{arith}
+use native.Mathlib.Numerals.{add-one}
+use lib.ListN.{length, getD}
+use lib.Ieee.{Float, nan}
+use Rattle.lists.specs.Lists.{Part}
+use Rattle.lists.proofs.Parts.{getD-part}
+use Rattle.metrics.specs.Distance.{squared, worked, distance, coordinateIn, valueIn, valueOf}
+use Rattle.metrics.specs.declared.Worked.{Worked}
+use Rattle.metrics.proofs.Laws.{squared-ext}
+use Rattle.kmeans.specs.declared.Frame.{Frame}
+use Rattle.kmeans.specs.Frame.{memberOf, valueAt, taskOf, Framed}
+use Rattle.kmeans.specs.Kmeans.{lessOf, nearest, distanceTo, chosen, coordinate}
+
+-- ---- assign
+
+pub nearest-ext : (d e : ℕ → Worked) (n : ℕ) → ((i : ℕ) → d i ≡ e i) → nearest d n ≡ nearest e n
+unfolding nearest
+nearest-ext d e zero h = refl
+nearest-ext d e (suc i) h = rw (nearest-ext d e i h, h i, h (nearest e i))
+
+pick-lt : (b : Bool) (i best : ℕ) → best ≤ i → cond b i best < suc i
+pick-lt true i best h = omega arith
+pick-lt false i best h = omega arith
+
+nearest-le : (d : ℕ → Worked) (i : ℕ) → nearest d (suc i) < suc i
+unfolding nearest
+nearest-le d zero = pick-lt (lessOf (d 0) (d 0)) 0 0 (omega arith)
+nearest-le d (suc i) = pick-lt (lessOf (d (suc i)) (d (nearest d (suc i)))) (suc i) (nearest d (suc i)) (omega (arith, nearest-le d i))
+
+-- the best of the first n is one of them
+pub nearest-lt : (d : ℕ → Worked) (n : ℕ) → 0 < n → nearest d n < n
+nearest-lt d zero h = absurd (omega arith)
+nearest-lt d (suc i) h = nearest-le d i
+
+same-either : (b : Bool) → _≡_ {A = ℕ} (cond b 0 0) 0
+same-either true = refl
+same-either false = refl
+
+-- of one centre it is centre 0
+pub nearest-one : (d : ℕ → Worked) → nearest d 1 ≡ 0
+unfolding nearest
+nearest-one d = same-either (lessOf (d 0) (d 0))
+
+-- one more centre
+pub nearest-step : (d : ℕ → Worked) (i best next : ℕ) → best ≡ nearest d i → next ≡ cond (lessOf (d i) (d best)) i best → next ≡ nearest d (i + 1)
+unfolding nearest
+nearest-step d i best next e f = f ∙ rw (e, add-one)
+
+pub distance-ext : (x y c d : ℕ → Float) (w : ℕ) → ((j : ℕ) → j < w → x j ≡ y j) → ((j : ℕ) → j < w → c j ≡ d j) → distance x c w ≡ distance y d w
+distance-ext x y c d w e f = ap worked (squared-ext x y c d w e f)
+
+-- the choice depends on the values alone
+pub chosen-ext : (x y : ℕ → Float) (cs : List Float) (w n : ℕ) → ((j : ℕ) → j < w → x j ≡ y j) → chosen x cs w n ≡ chosen y cs w n
+chosen-ext x y cs w n e =
+    nearest-ext (distanceTo x cs w) (distanceTo y cs w) n (λ i. distance-ext x y (coordinate cs w i) (coordinate cs w i) w e (λ j h. refl))
+
+-- a slice that is the stretch of centre i is that centre
+pub stretch-distance : (x : ℕ → Float) (cs c : List Float) (i w : ℕ) → Part cs (i * w) w c → distance x (coordinateIn c) (length c) ≡ distanceTo x cs w i
+stretch-distance x cs c i w p =
+    rw (p .long) (distance-ext x x (coordinateIn c) (coordinate cs w i) w (λ j h. refl) (λ j h. rw (p .is) (getD-part cs (i * w) w j nan h)))
+
+-- ---- frames
+
+-- the range of a row lies within the rows
+pub row-held : {f : Frame} {rows : List Float} {members : List ℕ} {residual : List Float} (k m : ℕ) → Framed f rows members residual → k < f .n
+    → m ≡ memberOf (f .listed) members k → m * f .d + f .begin + f .w ≤ length rows
+row-held k m s h e = rw e (omega (arith, s .held k h, s .inside))
+
+-- the slice of a row's range holds the row's values
+pub row-value : {rows x : List Float} (f : Frame) (members : List ℕ) (residual : List Float) (k j : ℕ) → Part rows (memberOf (f .listed) members k * f .d + f .begin) (f .w) x
+    → j < f .w → valueIn (f .has) x residual j ≡ valueAt f rows members residual k j
+row-value {rows} f members residual k j p h =
+    ap (λ (v : Float). valueOf (f .has) v (getD residual j nan)) (rw (p .is) (getD-part rows (memberOf (f .listed) members k * f .d + f .begin) (f .w) j nan h))
+
+pub row-chosen : {rows x : List Float} (f : Frame) (members : List ℕ) (residual cs : List Float) (k n : ℕ) → Part rows (memberOf (f .listed) members k * f .d + f .begin) (f .w) x
+    → chosen (valueIn (f .has) x residual) cs (length x) n ≡ chosen (valueAt f rows members residual k) cs (f .w) n
+row-chosen {rows} {x} f members residual cs k n p =
+    rw (p .long) (chosen-ext (valueIn (f .has) x residual) (valueAt f rows members residual k) cs (f .w) n (λ j h. row-value f members residual k j p h))

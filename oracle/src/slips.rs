@@ -1,0 +1,87 @@
+//! The command `slips`: shows that the comparison sees each plausible slip, by putting the same
+//! random cases to copies of the page in which one slip each is planted.
+
+use slipped::{slips, Slip};
+
+use crate::case::{Case, Kind};
+use crate::compare::{differs, seed_of};
+use crate::difference::difference;
+use crate::drive::hear;
+use crate::generate::fitted;
+use crate::original::Verdict;
+use crate::quiet::{catch, Panic};
+use crate::shrink::shrink;
+use seat::Subject;
+
+/// Where a slip was seen.
+struct Seen {
+    at: usize,
+    kind: Kind,
+    words: String,
+}
+
+/// Runs cases until every slip that can be seen is seen, and prints where; true if all are, and
+/// those that cannot be are not.
+pub fn show(cases: usize, seed: u64) -> bool {
+    println!("slips: up to {cases} cases of every kind, seed {seed}");
+    let all: Vec<(&Slip, &dyn Subject)> = slips().collect();
+    let mut seen: Vec<Option<Seen>> = all.iter().map(|_| None).collect();
+    let visible = |number: usize| all[number].0.same_because.is_none();
+    let mut run = 0;
+    while run < cases && (0..all.len()).any(|number| visible(number) && seen[number].is_none()) {
+        let kind = Kind::ALL[run % 3];
+        let (case, verdict, _) = fitted(kind, seed_of(seed, run));
+        for (number, (_, voice)) in all.iter().enumerate() {
+            if seen[number].is_none() {
+                let words = catch_difference(*voice, &case, &verdict);
+                seen[number] = words.map(|words| Seen { at: run, kind, words });
+            }
+        }
+        run += 1;
+    }
+    print(&all, &seen, run)
+}
+
+/// The difference that a slipped voice shows on a case; a panic is one too.
+fn catch_difference(voice: &dyn Subject, case: &Case, verdict: &Verdict) -> Option<String> {
+    match catch(|| hear(voice, case)) {
+        Ok(reply) => difference(verdict, &reply.expect("the page has every entry point")),
+        Err(Panic::Said(text)) => Some(format!("panicked: {text}")),
+        Err(Panic::OutOfDraws) => unreachable!("the page draws from its own list"),
+    }
+}
+
+/// A line for each slip, and the count.
+fn print(all: &[(&Slip, &dyn Subject)], seen: &[Option<Seen>], run: usize) -> bool {
+    let mut right = 0;
+    for ((slip, _), seen) in all.iter().zip(seen) {
+        let (as_it_must_be, words) = match (seen, slip.same_because) {
+            (Some(seen), None) => {
+                (true, format!("seen at case {} ({}): {}", seen.at, seen.kind.name(), seen.words))
+            }
+            (None, Some(why)) => (true, format!("same on all {run} cases, as it must be: {why}")),
+            (None, None) => (false, format!("NOT SEEN in {run} cases")),
+            (Some(seen), Some(_)) => (false, format!("SEEN, but must be the same: {}", seen.words)),
+        };
+        println!("  {}: {words}", slip.says);
+        right += as_it_must_be as usize;
+    }
+    let same = all.iter().filter(|(slip, _)| slip.same_because.is_some()).count();
+    let found = seen.iter().flatten().count();
+    println!("slips {}, seen {found}, the same by arithmetic {same}", all.len());
+    right == all.len()
+}
+
+/// Prints the smallest case at which one slip is seen.
+pub fn show_smallest(number: usize, cases: usize, seed: u64) -> bool {
+    let (slip, voice) = slips().nth(number).expect("there are fewer slips");
+    let differing = |case: &Case| catch(|| differs(voice, case)).map_or(true, |found| found.is_some());
+    for run in 0..cases {
+        let (case, _, _) = fitted(Kind::ALL[run % 3], seed_of(seed, run));
+        if differing(&case) {
+            println!("{}: {:?}", slip.says, shrink(case, &differing));
+            return true;
+        }
+    }
+    false
+}
