@@ -24,8 +24,11 @@ pub enum Grain {
     Near,
     /// Up to 1e18: squares are large, sums of them finite.
     Huge,
-    /// Up to 2e19: squares come close to the largest f32 or pass it.
+    /// All coordinates of a row near 9e18, or all near -9e18: the square of a difference is finite,
+    /// the sum of two such squares overflows.
     Brink,
+    /// Up to 2e19: the square of a difference comes close to the largest f32 or passes it.
+    Beyond,
     /// Up to the largest f32: sums and differences overflow too.
     Giant,
     /// Up to 1e-20: squares are subnormal or zero.
@@ -38,7 +41,7 @@ pub enum Grain {
     Mixed,
 }
 
-const GRAINS: [Grain; 13] = [
+pub const GRAINS: [Grain; 14] = [
     Grain::Binary,
     Grain::Whole,
     Grain::Halves,
@@ -47,6 +50,7 @@ const GRAINS: [Grain; 13] = [
     Grain::Near,
     Grain::Huge,
     Grain::Brink,
+    Grain::Beyond,
     Grain::Giant,
     Grain::Tiny,
     Grain::Subnormal,
@@ -70,13 +74,14 @@ pub fn coordinate(chance: &mut Chance, grain: Grain) -> f32 {
         Grain::Wide => (chance.signed() * 100.0) as f32,
         Grain::Near => (1000.0 + 5.0 * chance.signed()) as f32,
         Grain::Huge => (chance.signed() * 1e18) as f32,
-        Grain::Brink => (chance.signed() * 2e19) as f32,
+        Grain::Brink => chance.pick(&[-9e18, -8e18, 8e18, 9e18]),
+        Grain::Beyond => (chance.signed() * 2e19) as f32,
         Grain::Giant => (chance.signed() * f32::MAX as f64) as f32,
         Grain::Tiny => (chance.signed() * 1e-20) as f32,
         Grain::Subnormal => f32::from_bits(chance.bits() as u32 & 0x807f_ffff),
         Grain::Zeros => f32::from_bits(chance.bits() as u32 & 0x8000_0000),
         Grain::Mixed => {
-            let grain = chance.pick(&GRAINS[..12]);
+            let grain = chance.pick(&GRAINS[..13]);
             coordinate(chance, grain)
         }
     }
@@ -96,10 +101,17 @@ pub fn rows(chance: &mut Chance, grain: Grain, n: usize, d: usize) -> Vec<f32> {
                 rows[at] = coordinate(chance, grain);
             }
         } else {
-            rows.extend((0..d).map(|_| coordinate(chance, grain)));
+            rows.extend(point(chance, grain, d));
         }
     }
     rows
+}
+
+/// A point of a grain.
+pub fn point(chance: &mut Chance, grain: Grain, d: usize) -> Vec<f32> {
+    let side = chance.pick(&[-1.0, 1.0]);
+    let one = |x: f32| if matches!(grain, Grain::Brink) { side * x.abs() } else { x };
+    (0..d).map(|_| one(coordinate(chance, grain))).collect()
 }
 
 /// More draws than the donor steps expected, of one of several manners; `n` is the number of rows, so
@@ -148,8 +160,8 @@ fn plain_params(chance: &mut Chance) -> PlainParams {
     let most = d.min(64);
     let n_sub = match chance.below(5) {
         0 => 1,
-        1 => most,
-        2 => most.min(25),
+        1 | 2 => most,
+        3 => most.min(25),
         _ => chance.between(1, most),
     };
     let sub_bits = chance.pick(&[0, 1, 1, 2, 2, 2, 3, 3, 3, 4, 4, 4, 5, 6, 7, 8, 8]);
@@ -280,7 +292,8 @@ fn celled_cost(plain: PlainParams, cells: usize, n: usize, epochs: usize) -> usi
     coarse + plain_cost(plain, n, epochs) + DONOR_STEP * donors + 10 * words
 }
 
-/// Some queries: rows themselves, rows with a coordinate changed, and new points. Some hide rows.
+/// Some queries: rows themselves, rows with a coordinate changed, and new points. Some hide rows,
+/// more often where the sum of a hidden row may overflow.
 fn queries(chance: &mut Chance, grain: Grain, rows: &[f32], d: usize) -> Vec<Query> {
     let n = rows.len() / d;
     let mut list = Vec::new();
@@ -290,7 +303,7 @@ fn queries(chance: &mut Chance, grain: Grain, rows: &[f32], d: usize) -> Vec<Que
         match chance.below(3) {
             0 => {}
             1 => point[chance.below(d)] = coordinate(chance, grain),
-            _ => point.iter_mut().for_each(|x| *x = coordinate(chance, grain)),
+            _ => point = self::point(chance, grain, d),
         }
         let k = match chance.below(8) {
             0 => 0,
@@ -300,18 +313,23 @@ fn queries(chance: &mut Chance, grain: Grain, rows: &[f32], d: usize) -> Vec<Que
             4 if chance.one_in(10) => 4096,
             _ => chance.between(1, n),
         };
-        let mask = chance.one_in(5).then(|| mask(chance, n));
+        let often = if matches!(grain, Grain::Brink) { 2 } else { 5 };
+        let mask = chance.one_in(often).then(|| mask(chance, rows, &point));
         list.push(Query { point, k, mask });
     }
     list
 }
 
-/// A mask: some rows hidden, at times all of them.
-fn mask(chance: &mut Chance, n: usize) -> Mask {
-    let shown = chance.below(4);
-    let mut byte = |_| if chance.below(4) < shown { chance.between(1, 255) as u8 } else { 0 };
-    let visible = (0..n).map(&mut byte).collect();
-    Mask { visible, spoil: chance.one_in(2) }
+/// A mask: some rows hidden, at times all of them, at times those on the other side of zero.
+fn mask(chance: &mut Chance, rows: &[f32], query: &[f32]) -> Mask {
+    let shown = chance.below(5);
+    let mut shows = |row: &[f32]| match shown {
+        4 => row[0].is_sign_negative() == query[0].is_sign_negative(),
+        _ => chance.below(4) < shown,
+    };
+    let visible: Vec<bool> = rows.chunks_exact(query.len()).map(&mut shows).collect();
+    let byte = |shows| if shows { chance.between(1, 255) as u8 } else { 0 };
+    Mask { visible: visible.into_iter().map(byte).collect(), spoil: chance.one_in(2) }
 }
 
 /// A case of a kind, decided by its seed alone, with more draws than it needs.

@@ -105,9 +105,10 @@ fn plain_f64(x: f64) -> Vec<f64> {
     vec![0.0, 0.5, x]
 }
 
-/// Rows with their first `d` coordinates only.
-fn narrowed(rows: &[f32], from: usize, d: usize) -> Vec<f32> {
-    rows.chunks_exact(from).flat_map(|row| row[..d].to_vec()).collect()
+/// Rows of `d` coordinates without a stretch of these.
+fn narrowed(rows: &[f32], d: usize, cut: &Range<usize>) -> Vec<f32> {
+    let kept = rows.iter().enumerate().filter(|(at, _)| !cut.contains(&(at % d)));
+    kept.map(|(_, &x)| x).collect()
 }
 
 fn kmeans(case: &KmeansCase) -> Vec<Change<'_, KmeansCase>> {
@@ -117,18 +118,28 @@ fn kmeans(case: &KmeansCase) -> Vec<Change<'_, KmeansCase>> {
     }
     lower(&mut list, case.n_center, 1, |c, x| c.n_center = x);
     lower(&mut list, case.epochs, 0, |c, x| c.epochs = x);
-    lower(&mut list, case.end, case.begin + 1, |c, x| c.end = x);
+    for cut in cuts(case.end - case.begin) {
+        let cut = case.begin + cut.start..case.begin + cut.end;
+        list.push(Box::new(move |c| without_coordinates(c, &cut)));
+    }
     if case.residual.is_some() {
         list.push(Box::new(|c| c.residual = None));
     }
     if case.begin > 0 {
-        list.push(Box::new(|c| (c.begin, c.end) = (0, c.end - c.begin)));
+        list.push(Box::new(|c| {
+            without_coordinates(c, &(0..c.begin));
+            c.begin = 0;
+        }));
     }
     if case.members.len() * case.d < case.rows.len() {
         list.push(Box::new(without_strangers));
     }
     if case.end < case.d {
-        list.push(Box::new(without_the_end));
+        list.push(Box::new(|c| {
+            let end = c.end;
+            without_coordinates(c, &(c.end..c.d));
+            c.end = end;
+        }));
     }
     lower(&mut list, case.draws.len(), 0, |c, x| c.draws.truncate(x));
     plainer(&mut list, &case.rows, plain_f32, |c| &mut c.rows);
@@ -145,13 +156,14 @@ fn without_strangers(case: &mut KmeansCase) {
     case.members = (0..case.members.len() as u32).collect();
 }
 
-/// Drops coordinates past the range.
-fn without_the_end(case: &mut KmeansCase) {
-    case.rows = narrowed(&case.rows, case.d, case.end);
+/// Drops coordinates; the range ends as many earlier.
+fn without_coordinates(case: &mut KmeansCase, cut: &Range<usize>) {
+    case.rows = narrowed(&case.rows, case.d, cut);
     if let Some(residual) = &mut case.residual {
-        residual.truncate(case.end);
+        residual.drain(cut.clone());
     }
-    case.d = case.end;
+    case.d -= cut.len();
+    case.end -= cut.len();
 }
 
 fn plain(case: &PlainCase) -> Vec<Change<'_, PlainCase>> {
@@ -163,7 +175,11 @@ fn plain(case: &PlainCase) -> Vec<Change<'_, PlainCase>> {
     lower(&mut list, case.params.n_sub, 1, |c, x| c.params.n_sub = x);
     lower(&mut list, case.params.sub_bits, 0, |c, x| c.params.sub_bits = x);
     lower(&mut list, case.epochs, 0, |c, x| c.epochs = x);
-    lower(&mut list, case.params.d, case.params.n_sub, narrow);
+    for cut in cuts(case.params.d) {
+        if case.params.n_sub + cut.len() <= case.params.d {
+            list.push(Box::new(move |c| narrow(c, &cut)));
+        }
+    }
     lower(&mut list, case.draws.len(), 0, |c, x| c.draws.truncate(x));
     plainer(&mut list, &case.rows, plain_f32, |c| &mut c.rows);
     plainer(&mut list, &case.draws, plain_f64, |c| &mut c.draws);
@@ -179,11 +195,13 @@ fn without_rows(case: &mut PlainCase, cut: &Range<usize>) {
     }
 }
 
-/// Drops coordinates from `d` on.
-fn narrow(case: &mut PlainCase, d: usize) {
-    case.rows = narrowed(&case.rows, case.params.d, d);
-    case.queries.iter_mut().for_each(|query| query.point.truncate(d));
-    case.params.d = d;
+/// Drops coordinates.
+fn narrow(case: &mut PlainCase, cut: &Range<usize>) {
+    case.rows = narrowed(&case.rows, case.params.d, cut);
+    for query in &mut case.queries {
+        query.point.drain(cut.clone());
+    }
+    case.params.d -= cut.len();
 }
 
 /// Fewer or plainer queries: one of several, or none; then a plainer one.

@@ -7,14 +7,18 @@ use native.Mathlib.Omega.{arith}
 use native.Mathlib.Numerals.{add-one}
 use lib.ListN.{length, getD}
 use lib.Ieee.{Float, nan}
-use Rattle.lists.specs.Lists.{Part}
+use borrow.Author.Tests.{ne-eqb}
+use Rattle.lists.specs.Lists.{Part, tab, grid}
+use Rattle.lists.proofs.Tables.{length-tab, tab-ext, getD-tab}
+use Rattle.lists.proofs.Joins.{grid-ext}
 use Rattle.lists.proofs.Parts.{getD-part}
-use Rattle.metrics.specs.Distance.{squared, worked, distance, coordinateIn, valueIn, valueOf}
+use Rattle.metrics.specs.Distance.{squared, worked, distance, coordinateIn, valueIn, valueOf, sumTo}
 use Rattle.metrics.specs.declared.Worked.{Worked}
 use Rattle.metrics.proofs.Laws.{squared-ext}
 use Rattle.kmeans.specs.declared.Frame.{Frame}
 use Rattle.kmeans.specs.Frame.{memberOf, valueAt, taskOf, Framed}
-use Rattle.kmeans.specs.Kmeans.{lessOf, nearest, distanceTo, chosen, coordinate}
+use Rattle.kmeans.specs.Kmeans.{Task, lessOf, nearest, distanceTo, chosen, coordinate, started, startAt, meanAt, meanOf}
+use Rattle.kmeans.specs.Inner.{addedAt, columnSum, meanIn, meansOf, startFrom}
 
 -- ---- assign
 
@@ -81,3 +85,26 @@ pub row-chosen : {rows x : List Float} (f : Frame) (members : List ℕ) (residua
     → chosen (valueIn (f .has) x residual) cs (length x) n ≡ chosen (valueAt f rows members residual k) cs (f .w) n
 row-chosen {rows} {x} f members residual cs k n p =
     rw (p .long) (chosen-ext (valueIn (f .has) x residual) (valueAt f rows members residual k) cs (f .w) n (λ j h. row-value f members residual k j p h))
+
+-- ---- sums and means
+
+-- the sums of one more row
+pub column-step : (t : Task) (k w : ℕ) (sums x r : List Float) (has : Bool) → sums ≡ tab (columnSum t k) w → ((j : ℕ) → j < w → valueIn has x r j ≡ t .value k j)
+    → tab (addedAt sums has x r) (length sums) ≡ tab (columnSum t (k + 1)) w
+unfolding sumTo
+column-step t k w sums x r has e f =
+    rw (e, length-tab) (tab-ext _ _ w (λ j h. rw (getD-tab (columnSum t k) w j nan h, f j h, add-one)))
+
+-- the means of the sums of all rows
+pub means-of : (t : Task) (sums mean : List Float) → sums ≡ tab (columnSum t (t .n)) (t .w) → mean ≡ tab (meanIn sums (t .n)) (length sums) → mean ≡ meansOf t
+means-of t sums mean e f = f ∙ rw (e, length-tab)
+
+-- the start from the mean is the start
+pub start-mean : (t : Task) (mean : List Float) → 0 < t .n → mean ≡ meansOf t
+    → grid (startFrom mean) (t .centers) (t .w) ≡ started t
+unfolding startAt meanAt meanOf
+start-mean t mean h e =
+    grid-ext _ _ (t .centers) (t .w) (λ i p j q.
+    let z : getD mean j nan ≡ meanAt t j =
+    rw (e, getD-tab (meanIn (tab (columnSum t (t .n)) (t .w)) (t .n)) (t .w) j nan q, getD-tab (columnSum t (t .n)) (t .w) j nan q, ne-eqb (t .n) 0 (λ n. omega arith))
+    in rw z)

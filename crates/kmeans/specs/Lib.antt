@@ -1,2 +1,3 @@
 pub mod Kmeans
 pub mod Frame
+pub mod Inner

@@ -6,8 +6,8 @@ use mathlib.Core.List.{List, [], _∷_, _++_, append-assoc, append-nil, map, map
 use native.Mathlib.Nat.{eq-or-lt-of-le, le-of-suc-le-suc, add-zero, add-suc}
 use native.Mathlib.Numerals.{add-one}
 use native.Mathlib.Omega.{arith}
-use lib.ListN.{length, take, drop, set, getD, length-append, drop-of-length-le, List·getD-append}
-use lib.Seq.{drop-cons, set-at, set-append-left, getD-at, getD-append-add, getD-drop, take-suc}
+use lib.ListN.{length, take, drop, set, getD, replicate, length-append, length-take, length-replicate, getD-replicate, drop-of-length-le, List·getD-append}
+use lib.Seq.{drop-cons, set-at, set-append-left, getD-at, getD-append-add, getD-drop, getD-take, take-suc, ext-getD}
 use Rattle.lists.specs.Lists.{tab, fill}
 
 -- i is the last of n + 1 or one of the n before
@@ -86,3 +86,10 @@ pub map-tab {ℓ κ} : {A : Type ℓ} {B : Type κ} (f : A → B) (g : ℕ → A
 unfolding tab
 map-tab f g zero = refl
 map-tab {B = B} f g (suc n) = map-append f (tab g n) (g n ∷ []) ∙ ap (λ (t : List B). t ++ (f (g n) ∷ [])) (map-tab f g n)
+
+-- the first w places of a fresh array
+pub take-fresh {ℓ} : {A : Type ℓ} (v : A) (w n : ℕ) → w ≤ n → take w (replicate n v) ≡ fill v w
+take-fresh v w n h =
+    let l : length (take w (replicate n v)) ≡ w = length-take w (replicate n v) ∙ rw length-replicate (omega arith) in
+    ext-getD v (take w (replicate n v)) (fill v w) (l ∙ sym (length-tab (λ i. v) w))
+    (λ i k. let k' : i < w = omega arith in getD-take w (replicate n v) i v k' ∙ getD-replicate n i v v (omega arith) ∙ sym (getD-tab (λ i. v) w i v k'))

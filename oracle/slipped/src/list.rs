@@ -79,7 +79,9 @@ pub const SLIPS: &[Slip] = &[
         &[(
             "        for row in self.visible() {
             candidates.push(Candidate { sum: self.row_sum(row, table)?, row });",
-            "        for &row in self.members {
+            "        let k = 1 << self.params.sub_bits;
+        let coded = |row: u32| self.code(row).iter().all(|&c| (c as usize) < k);
+        for row in self.members.iter().copied().filter(|&row| coded(row)) {
             let sum = self.row_sum(row, table)?;
             if self.mask[row as usize] != 0 {
                 candidates.push(Candidate { sum, row });
