@@ -1,6 +1,8 @@
 //! Puts a case to a voice: lends it buffers of the right lengths, filled with junk, and keeps what
 //! they hold afterwards.
 
+use std::time::Instant;
+
 use seat::{
     CelledIndex, CelledSearch, CelledTraining, Kmeans, PlainParams, PlainSearch, PlainTraining,
     Searched, Subject, Trained,
@@ -16,9 +18,10 @@ pub struct Reply {
     pub searches: Vec<Heard>,
 }
 
-/// One search as heard.
+/// One search as heard, and the seconds that it took.
 pub struct Heard {
     pub answer: Searched,
+    pub seconds: f64,
     pub rows: Vec<u32>,
     pub sums: Vec<f32>,
     pub table: Vec<f32>,
@@ -210,7 +213,9 @@ impl Lent {
         mut self,
         run: impl FnOnce(&mut [f32], &mut [u32], &mut [f32]) -> Option<Searched>,
     ) -> Option<Heard> {
+        let begun = Instant::now();
         let answer = run(&mut self.table, &mut self.rows, &mut self.sums)?;
-        Some(Heard { answer, rows: self.rows, sums: self.sums, table: self.table })
+        let seconds = begun.elapsed().as_secs_f64();
+        Some(Heard { answer, seconds, rows: self.rows, sums: self.sums, table: self.table })
     }
 }

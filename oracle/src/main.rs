@@ -1,10 +1,135 @@
-mod case; mod chance; mod compare; mod difference; mod drive; mod generate; mod original; mod quiet; mod shrink; mod tally; mod slips; mod distance_check;
-fn main(){
+//! The oracle: the Rust itself as the judge. See README.md for the commands.
+
+mod as_is;
+mod bench;
+mod case;
+mod chance;
+mod compare;
+mod corners;
+mod difference;
+mod disagree;
+mod distance_check;
+mod drive;
+#[cfg(feature = "library")]
+mod face;
+mod generate;
+mod original;
+mod quiet;
+mod record;
+mod replay;
+mod shrink;
+mod slips;
+mod tally;
+
+use std::path::{Path, PathBuf};
+use std::process::ExitCode;
+
+use case::Kind;
+use seat::Subject;
+
+const USAGE: &str = "\
+commands:
+  compare [--cases N] [--seed S] [--kind kmeans|plain|celled|all] [--voice page|library]
+  slips [--cases N] [--seed S] [--smallest NUMBER]
+  distance-check [--cases N] [--seed S]
+  record [FILE]
+  replay [FILE] [--voice page|library]
+  disagree
+  bench [--voice page|library]";
+
+/// The recorded answers, as data of the program that replays them.
+const RECORDED: &str = "../crates/answers/data/recorded.bin";
+
+fn main() -> ExitCode {
+    if cfg!(debug_assertions) {
+        eprintln!("run with --release: document 01 fixes a 64-bit release build");
+        return ExitCode::FAILURE;
+    }
     quiet::install();
-    let a: Vec<String> = std::env::args().collect();
-    if a[1] == "slips" { slips::show(3000, a[2].parse().unwrap()); return; }
-    if a[1] == "dist" { distance_check::check(3_000_000, 1); return; }
-    if a[1] == "small" { slips::show_smallest(a[2].parse().unwrap(), 3000, 1); return; }
-    let kinds = match a[2].as_str() { "kmeans" => vec![case::Kind::Kmeans], "plain" => vec![case::Kind::Plain], "celled" => vec![case::Kind::Celled], _ => case::Kind::ALL.to_vec() };
-    compare::compare(&page::Page, &compare::Order { cases: a[1].parse().unwrap(), seed: a[3].parse().unwrap(), kinds });
+    match Options::read(std::env::args().skip(1)).and_then(|options| run(&options)) {
+        Some(true) => ExitCode::SUCCESS,
+        Some(false) => ExitCode::FAILURE,
+        None => {
+            eprintln!("{USAGE}");
+            ExitCode::FAILURE
+        }
+    }
+}
+
+/// What the command line says.
+struct Options {
+    command: String,
+    file: PathBuf,
+    cases: Option<usize>,
+    seed: u64,
+    kinds: Vec<Kind>,
+    voice: Option<String>,
+    smallest: Option<usize>,
+}
+
+impl Options {
+    /// Reads the command line; none if it says something unknown.
+    fn read(mut words: impl Iterator<Item = String>) -> Option<Options> {
+        let mut options = Options {
+            command: words.next()?,
+            file: Path::new(env!("CARGO_MANIFEST_DIR")).join(RECORDED),
+            cases: None,
+            seed: 1,
+            kinds: Kind::ALL.to_vec(),
+            voice: None,
+            smallest: None,
+        };
+        while let Some(word) = words.next() {
+            match word.as_str() {
+                "--cases" => options.cases = Some(words.next()?.parse().ok()?),
+                "--seed" => options.seed = words.next()?.parse().ok()?,
+                "--kind" => options.kinds = kinds(&words.next()?)?,
+                "--voice" => options.voice = Some(words.next()?),
+                "--smallest" => options.smallest = Some(words.next()?.parse().ok()?),
+                flag if flag.starts_with("--") => return None,
+                file => options.file = PathBuf::from(file),
+            }
+        }
+        Some(options)
+    }
+
+    /// The voice set beside the Rust: the library if it is linked, unless another is asked for.
+    fn voice(&self) -> Option<&'static dyn Subject> {
+        let default = if cfg!(feature = "library") { "library" } else { "page" };
+        match self.voice.as_deref().unwrap_or(default) {
+            "page" => Some(&page::Page),
+            #[cfg(feature = "library")]
+            "library" => Some(&face::Library),
+            _ => None,
+        }
+    }
+}
+
+/// The kinds that a word names.
+fn kinds(word: &str) -> Option<Vec<Kind>> {
+    if word == "all" {
+        return Some(Kind::ALL.to_vec());
+    }
+    Some(vec![Kind::ALL.into_iter().find(|kind| kind.name() == word)?])
+}
+
+/// Runs a command: whether all is well, or none if there is no such command.
+fn run(options: &Options) -> Option<bool> {
+    let cases = |default| options.cases.unwrap_or(default);
+    Some(match options.command.as_str() {
+        "compare" => {
+            let (cases, seed, kinds) = (cases(10_000), options.seed, options.kinds.clone());
+            compare::compare(options.voice()?, &compare::Order { cases, seed, kinds })
+        }
+        "slips" => match options.smallest {
+            Some(number) => slips::show_smallest(number, cases(10_000), options.seed),
+            None => slips::show(cases(10_000), options.seed),
+        },
+        "distance-check" => distance_check::check(cases(2_000_000), options.seed),
+        "record" => record::record(&options.file),
+        "replay" => replay::replay(options.voice()?, &options.file),
+        "disagree" => disagree::show(),
+        "bench" => bench::bench(options.voice()?),
+        _ => return None,
+    })
 }

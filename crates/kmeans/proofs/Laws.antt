@@ -2,23 +2,26 @@
 use Prim.Native.Nat.{ℕ, zero, suc, _+_, _*_, _-_, _≤_, _<_}
 use mathlib.Core.Path.{_≡_, refl, sym, _∙_, ap, ap₂}
 use mathlib.Core.Bool.{Bool, true, false, cond}
-use mathlib.Core.List.{List}
+use mathlib.Core.List.{List, _++_}
 use native.Mathlib.Omega.{arith}
 use native.Mathlib.Numerals.{add-one}
-use lib.ListN.{length, getD}
-use lib.Ieee.{Float, nan}
-use borrow.Author.Tests.{ne-eqb}
-use Rattle.lists.specs.Lists.{Part, tab, grid}
-use Rattle.lists.proofs.Tables.{length-tab, tab-ext, getD-tab}
-use Rattle.lists.proofs.Joins.{grid-ext}
+use lib.ListN.{length, getD, set, drop}
+use lib.Ieee.{Float, nan, binary32, add}
+use lib.Ieee.Scale.{finite}
+use borrow.Author.Tests.{eq-eqb, ne-eqb}
+use Rattle.lists.specs.Lists.{Part, part, putPart, tab, grid}
+use Rattle.lists.specs.Tests.{every, count}
+use Rattle.lists.proofs.Tests.{every-ext, count-yes, count-no}
+use Rattle.lists.proofs.Tables.{length-tab, tab-ext, getD-tab, tab-set}
+use Rattle.lists.proofs.Joins.{grid-ext, part-grid, put-grid, getD-grid, grid-rest}
 use Rattle.lists.proofs.Parts.{getD-part}
 use Rattle.metrics.specs.Distance.{squared, worked, distance, coordinateIn, valueIn, valueOf, sumTo}
 use Rattle.metrics.specs.declared.Worked.{Worked}
 use Rattle.metrics.proofs.Laws.{squared-ext}
 use Rattle.kmeans.specs.declared.Frame.{Frame}
 use Rattle.kmeans.specs.Frame.{memberOf, valueAt, taskOf, Framed}
-use Rattle.kmeans.specs.Kmeans.{Task, lessOf, nearest, distanceTo, chosen, coordinate, started, startAt, meanAt, meanOf}
-use Rattle.kmeans.specs.Inner.{addedAt, columnSum, meanIn, meansOf, startFrom}
+use Rattle.kmeans.specs.Kmeans.{Task, lessOf, nearest, distanceTo, chosen, coordinate, started, startAt, meanAt, meanOf, isOf, countAt, sumWhere, averageAt, averagesOf, countsOf, finiteCenter, finiteCoordinate}
+use Rattle.kmeans.specs.Inner.{addedAt, addedTo, columnSum, centerSum, meanIn, meansOf, meansAt, startFrom, finiteIn}
 
 -- ---- assign
 
@@ -108,3 +111,65 @@ start-mean t mean h e =
     let z : getD mean j nan ≡ meanAt t j =
     rw (e, getD-tab (meanIn (tab (columnSum t (t .n)) (t .w)) (t .n)) (t .w) j nan q, getD-tab (columnSum t (t .n)) (t .w) j nan q, ne-eqb (t .n) 0 (λ n. omega arith))
     in rw z)
+
+-- ---- averages
+
+-- the k-th row is added to its own centre, and to no other
+module _ (t : Task) (to : List ℕ) (k : ℕ) where
+  own-sum : (j : ℕ) → centerSum t to (k + 1) (getD to k 0) j ≡ add binary32 (centerSum t to k (getD to k 0) j) (t .value k j)
+  unfolding sumWhere
+  own-sum j = rw (add-one, eq-eqb (getD to k 0) (getD to k 0) refl)
+
+  other-sum : (i : ℕ) → (i ≡ getD to k 0 → ⊥) → (j : ℕ) → centerSum t to k i j ≡ centerSum t to (k + 1) i j
+  unfolding sumWhere
+  other-sum i h j = rw (add-one, ne-eqb (getD to k 0) i (λ e. h (sym e)))
+
+module _ (to : List ℕ) (k : ℕ) where
+  own-count : count (isOf to (getD to k 0)) (k + 1) ≡ count (isOf to (getD to k 0)) k + 1
+  own-count = rw (add-one k, add-one) (count-yes (isOf to (getD to k 0)) k (eq-eqb (getD to k 0) (getD to k 0) refl))
+
+  other-count : (i : ℕ) → (i ≡ getD to k 0 → ⊥) → count (isOf to i) k ≡ count (isOf to i) (k + 1)
+  other-count i h = rw add-one (sym (count-no (isOf to i) k (ne-eqb (getD to k 0) i (λ e. h (sym e)))))
+
+pub center-step : (t : Task) (to : List ℕ) (k n w a : ℕ) (centers x r : List Float) (has : Bool) → a < n → a ≡ getD to k 0
+    → centers ≡ grid (centerSum t to k) n w → ((j : ℕ) → j < w → valueIn has x r j ≡ t .value k j)
+    → addedTo centers a w has x r ≡ grid (centerSum t to (k + 1)) n w
+unfolding addedTo
+center-step t to k n w a centers x r has h p e f =
+    rw (p, e)
+    (ap (putPart (grid (centerSum t to k) n w) (getD to k 0 * w) w) (tab-ext _ _ w (λ j l. row j l))
+    ∙ put-grid (centerSum t to k) (centerSum t to (k + 1)) n w (getD to k 0) (omega arith) (λ i q j l. other-sum t to k i q j))
+  where
+    row : (j : ℕ) → j < w → addedAt (part (grid (centerSum t to k) n w) (getD to k 0 * w) w) has x r j ≡ centerSum t to (k + 1) (getD to k 0) j
+    row j l = rw (part-grid (centerSum t to k) n w (getD to k 0) (omega arith), getD-tab _ w j nan l, f j l, own-sum t to k j)
+
+-- the rows of each centre, of the first k rows
+abbrev pub countTo : List ℕ → ℕ → ℕ → ℕ
+countTo to k i = count (isOf to i) k
+
+pub count-step : (to : List ℕ) (k n a : ℕ) (counts : List ℕ) → a < n → a ≡ getD to k 0 → counts ≡ tab (countTo to k) n
+    → set counts a (getD counts a 0 + 1) ≡ tab (countTo to (k + 1)) n
+count-step to k n a counts h p e =
+    let q : getD counts a 0 + 1 ≡ countTo to (k + 1) (getD to k 0) = rw (p, e, getD-tab (countTo to k) n (getD to k 0) 0 (omega arith)) (sym (own-count to k)) in
+    rw (q, p, e) (tab-set (countTo to k) (countTo to (k + 1)) n (getD to k 0) (omega arith) (other-count to k))
+
+-- the means of the sums are the averages
+pub means-average : (t : Task) (to : List ℕ) (cs : List Float) (counts : List ℕ) → cs ≡ grid (centerSum t to (t .n)) (t .centers) (t .w) → counts ≡ countsOf t to
+    → grid (meansAt cs counts (t .w)) (t .centers) (t .w) ≡ averagesOf t to
+unfolding averageAt
+means-average t to cs counts e f =
+    grid-ext _ _ (t .centers) (t .w) (λ i h j l. rw (e, f, getD-tab (countAt t to) (t .centers) i 0 h, getD-grid (centerSum t to (t .n)) (t .centers) (t .w) i j nan h l))
+
+-- the means of one stretch of sums that no mean has replaced yet
+pub means-stretch : (cs : List Float) (counts : List ℕ) (w i : ℕ) (now : List Float) → now ≡ grid (meansAt cs counts w) i w ++ drop (i * w) cs
+    → tab (meanIn (part now (i * w) w) (getD counts i 0)) w ≡ tab (meansAt cs counts w i) w
+means-stretch cs counts w i now e =
+    tab-ext _ _ w (λ j h. ap (meanOf (getD counts i 0)) (ap (λ (l : List Float). getD l j nan) (grid-rest (meansAt cs counts w) i w cs now e) ∙ getD-part cs (i * w) w j nan h))
+
+-- ---- finite centres
+
+-- a slice that is the stretch of centre i is finite exactly if the centre is
+pub stretch-finite : (cs c : List Float) (w i : ℕ) → Part cs (i * w) w c → every (finiteIn c) (length c) ≡ finiteCenter cs w i
+unfolding finiteCenter
+stretch-finite cs c w i p =
+    rw (p .long) (every-ext (finiteIn c) (finiteCoordinate cs w i) w (λ j h. ap finite (ap (λ (l : List Float). getD l j nan) (p .is) ∙ getD-part cs (i * w) w j nan h)))

@@ -38,3 +38,8 @@ pub record Framed (f : Frame) (rows : List Float) (members : List ℕ) (residual
   pub residual-long : length residual ≡ f .w
   pub listed-long : f .listed ≡ true → f .n ≤ length members
   pub held : (k : ℕ) → k < f .n → memberOf (f .listed) members k * f .d + f .d ≤ length rows
+
+-- each row has one of the centres
+pub record Assigned (f : Frame) (to : List ℕ) : Type 0 where
+  pub long : length to ≡ f .n
+  pub below : (k : ℕ) → k < f .n → getD to k 0 < f .centers

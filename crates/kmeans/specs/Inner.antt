@@ -4,6 +4,7 @@ use mathlib.Core.List.{List}
 use mathlib.Core.Bool.{Bool, cond}
 use lib.ListN.{getD, set}
 use lib.Ieee.{Float, nan, binary32, add, sub}
+use lib.Ieee.Scale.{finite}
 use Rattle.lists.specs.Lists.{part, putPart, tab}
 use Rattle.metrics.specs.Distance.{valueIn, sumTo}
 use Rattle.kmeans.specs.Kmeans.{Task, column, raised, one32, meanOf, sumWhere, isOf}
@@ -39,3 +40,7 @@ addedTo cs a w has x r = putPart cs (a * w) w (tab (addedAt (part cs (a * w) w) 
 -- centre i's sums as means
 abbrev pub meansAt : List Float → List ℕ → ℕ → ℕ → ℕ → Float
 meansAt cs counts w i j = meanOf (getD counts i 0) (getD cs (i * w + j) nan)
+
+-- whether coordinate j of a slice is finite
+abbrev pub finiteIn : List Float → ℕ → Bool
+finiteIn s j = finite (getD s j nan)

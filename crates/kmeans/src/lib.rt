@@ -1,16 +1,18 @@
 // k-means on one range of the coordinates, with or without a residual, over all rows or over a list of them.
 // The centres are a lent stretch of a flat buffer; each row's centre and each centre's rows stand in lent runs of numbers.
 ghost use mathlib.Core.Path.{_≡_};
-ghost use mathlib.Core.Bool.{true, cond};
+ghost use mathlib.Core.Bool.{Bool, true, cond};
+ghost use lib.Ieee.Scale.{finite};
+ghost use Rattle.lists.specs.Tests.{every};
 ghost use Prim.Native.Nat.{ℕ, _+_, _*_, _≤_, _<_};
 ghost use mathlib.Core.List.{[]};
 ghost use lib.ListN.{length, getD, set};
 ghost use lib.Ieee.{add, sub, binary32};
 ghost use Rattle.lists.specs.Lists.{Part, tab, fill, part, putPart, grid};
 ghost use Rattle.metrics.specs.Distance.{valueIn, zero32};
-ghost use Rattle.kmeans.specs.Kmeans.{lessOf, distanceTo, chosen, assignedOf, started, meanOf, raised, one32};
-ghost use Rattle.kmeans.specs.Frame.{memberOf, taskOf, Framed};
-ghost use Rattle.kmeans.specs.Inner.{addedAt, columnSum, meanIn, meansOf, startFrom};
+ghost use Rattle.kmeans.specs.Kmeans.{lessOf, distanceTo, chosen, assignedOf, started, averagesOf, countsOf, countAt, meanOf, raised, one32, finiteCenter, lowestBroken};
+ghost use Rattle.kmeans.specs.Frame.{memberOf, taskOf, Framed, Assigned};
+ghost use Rattle.kmeans.specs.Inner.{addedAt, addedTo, columnSum, centerSum, meanIn, meansOf, meansAt, startFrom, finiteIn};
 use metrics::Worked;
 
 // Where a centre coordinate came out not finite.
@@ -238,4 +240,120 @@ pub fn init_center(f: Frame, rows: &[f32], members: &[u32], residual: &[f32], ce
     let mut mean = [0.0f32; 256];
     let w = f.w;
     start_from(f, rows, members, residual, &mut mean[..w], centers);
+}
+
+// The values of x are added to centre a.
+fn add_to_center(centers: &mut [f32], a: usize, x: &[f32], residual: &[f32], has: bool)
+    requires { ⌜ (length (now residual) ≡ length (now x)) × (a * length (now x) + length (now x) ≤ length (now centers)) ⌝ }
+    ensures { λ _. ⌜ now (centers .exit) ≡ addedTo (now (centers .entry)) a (length (now (x .entry))) has (now (x .entry)) (now (residual .entry)) ⌝ }
+{
+    let b = a * x.len();
+    let e = b + x.len();
+    add_into(&mut centers[b..e], x, residual, has);
+}
+
+// One more row of centre a.
+fn count_one(counts: &mut [u32], a: usize)
+    requires { ⌜ (a < length (now counts)) × (getD (now counts) a 0 < 100_001) ⌝ }
+    ensures { λ _. ⌜ now (counts .exit) ≡ set (now (counts .entry)) a (getD (now (counts .entry)) a 0 + 1) ⌝ }
+{
+    counts[a] = counts[a] + 1;
+}
+
+// Each row is added to its centre and counted there.
+fn accumulate(
+    f: Frame,
+    rows: &[f32],
+    members: &[u32],
+    residual: &[f32],
+    assigned: &[u32],
+    centers: &mut [f32],
+    counts: &mut [u32],
+)
+    requires { ⌜ Framed f (now rows) (now members) (now residual) ⌝ }
+    requires { ⌜ Assigned f (now assigned) ⌝ }
+    requires { ⌜ (now centers ≡ fill zero32 (f .centers * f .w)) × (now counts ≡ fill 0 (f .centers)) ⌝ }
+    ensures { λ _. ⌜ (now (centers .exit) ≡ grid (centerSum (taskOf f (now (rows .entry)) (now (members .entry)) (now (residual .entry)) 0 []) (now (assigned .entry)) (f .n)) (f .centers) (f .w)) × (now (counts .exit) ≡ countsOf (taskOf f (now (rows .entry)) (now (members .entry)) (now (residual .entry)) 0 []) (now (assigned .entry))) ⌝ }
+{
+    for k in 0..f.n {
+        let x = row_range(f, rows, members, residual, k);
+        let a = lists::wide(assigned[k]);
+        add_to_center(centers, a, x, residual, f.has);
+        count_one(counts, a);
+    }
+}
+
+// The sums of centre i become means.
+fn mean_center(centers: &mut [f32], i: usize, w: usize, rows: u32)
+    requires { ⌜ i * w + w ≤ length (now centers) ⌝ }
+    ensures { λ _. ⌜ now (centers .exit) ≡ putPart (now (centers .entry)) (i * w) w (tab (meanIn (part (now (centers .entry)) (i * w) w) rows) w) ⌝ }
+{
+    let a = i * w;
+    let e = a + w;
+    mean_into(&mut centers[a..e], rows);
+}
+
+// The sums of every centre become means.
+fn mean_centers(centers: &mut [f32], w: usize, counts: &[u32])
+    requires { ⌜ length (now centers) ≡ length (now counts) * w ⌝ }
+    ensures { λ _. ⌜ now (centers .exit) ≡ grid (meansAt (now (centers .entry)) (now (counts .entry)) w) (length (now (counts .entry))) w ⌝ }
+{
+    for i in 0..counts.len() {
+        mean_center(centers, i, w, counts[i]);
+    }
+}
+
+// Step 4: each centre becomes the mean of its rows, an empty one all zero; and how many rows each has.
+pub fn update_center(
+    f: Frame,
+    rows: &[f32],
+    members: &[u32],
+    residual: &[f32],
+    assigned: &[u32],
+    centers: &mut [f32],
+    counts: &mut [u32],
+)
+    requires { ⌜ Framed f (now rows) (now members) (now residual) ⌝ }
+    requires { ⌜ Assigned f (now assigned) ⌝ }
+    requires { ⌜ (length (now centers) ≡ f .centers * f .w) × (length (now counts) ≡ f .centers) ⌝ }
+    ensures { λ _. ⌜ (now (centers .exit) ≡ averagesOf (taskOf f (now (rows .entry)) (now (members .entry)) (now (residual .entry)) 0 []) (now (assigned .entry))) × (now (counts .exit) ≡ countsOf (taskOf f (now (rows .entry)) (now (members .entry)) (now (residual .entry)) 0 []) (now (assigned .entry))) ⌝ }
+{
+    lists::fill_floats(centers, 0.0);
+    lists::fill_numbers(counts, 0);
+    accumulate(f, rows, members, residual, assigned, centers, counts);
+    mean_centers(centers, f.w, counts);
+}
+
+// Whether every coordinate of a slice is finite.
+pub fn all_finite(s: &[f32]) -> bool
+    ensures { λ r. ⌜ r ≡ every (finiteIn (now (s .entry))) (length (now (s .entry))) ⌝ }
+{
+    for j in 0..s.len() {
+        if !metrics::is_finite(s[j]) {
+            return false;
+        }
+    }
+    true
+}
+
+// Whether all of centre i is finite.
+fn finite_center(centers: &[f32], w: usize, i: usize) -> bool
+    requires { ⌜ i * w + w ≤ length (now centers) ⌝ }
+    ensures { λ r. ⌜ r ≡ finiteCenter (now (centers .entry)) w i ⌝ }
+{
+    let c = lists::stretch(centers, i, w);
+    all_finite(c)
+}
+
+// The lowest of n centres that is not finite, or n: the test for 9.
+fn lowest_broken(centers: &[f32], w: usize, n: usize) -> usize
+    requires { ⌜ length (now centers) ≡ n * w ⌝ }
+    ensures { λ r. ⌜ r ≡ lowestBroken (now (centers .entry)) w n ⌝ }
+{
+    for i in 0..n {
+        if !finite_center(centers, w, i) {
+            return i;
+        }
+    }
+    n
 }

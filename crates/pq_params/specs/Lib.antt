@@ -1,2 +1,4 @@
 pub mod Bounds
 pub mod Ranges
+pub mod Defaults
+pub mod RangesRight

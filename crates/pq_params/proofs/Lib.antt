@@ -1,0 +1,4 @@
+pub mod Bounds
+pub mod RangeRule
+pub mod RangeList
+pub mod Examples

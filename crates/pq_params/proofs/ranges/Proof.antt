@@ -1,0 +1,57 @@
+-- `ranges`: after i turns the first i places are as defined, and the others as at the start.
+use borrow.Author.Needs.{needs}
+use Prim.Native.Nat.{_-_, _≤_}
+use mathlib.Core.Path.{_≡_}
+use mathlib.Core.List.{[], _++_}
+use lib.ListN.{length, drop}
+use Rattle.lists.specs.Lists.{tab}
+use Rattle.lists.proofs.Tables.{tab-none, tab-step, tab-done}
+use Rattle.pq_params.specs.Ranges.{pairAt, rangesOf}
+use Rattle.pq_params.proofs.ranges.Statement.{statement}
+use Rattle.pq_params.proofs.ranges.Tie as tie
+
+abbrev Inv-loop : tie.InvT-loop
+Inv-loop d n-sub out₀ i₀ out i = (i ≤ 64) × (length out ≡ 64) × (out ≡ tab (pairAt d n-sub) i ++ drop i out₀)
+
+abbrev μ-loop : tie.MeasureT-loop
+μ-loop d n-sub out₀ i₀ out i = 64 - i
+
+loop-holds : tie.Need-loop-holds Inv-loop μ-loop
+loop-holds c = (search needs, search needs, tab-none _ _)
+
+range-at-requires : tie.Need-range-at-requires Inv-loop μ-loop
+range-at-requires c κs = search needs
+
+mul-out : tie.Need-mul-out Inv-loop μ-loop
+mul-out c = search needs
+
+array-set-from-out : tie.Need-array-set-from-out Inv-loop μ-loop
+array-set-from-out c = search needs
+
+add-i : tie.Need-add-i Inv-loop μ-loop
+add-i c = search needs
+
+loop-less : tie.Need-loop-less Inv-loop μ-loop
+loop-less c = search needs
+
+loop-again : tie.Need-loop-again Inv-loop μ-loop
+loop-again c = (search needs, search needs, tab-step _ _ _ _ _ [] (search needs) (c .before .before .loop .inv .2) (c .range-at .ensures))
+
+returns : tie.Need-returns Inv-loop μ-loop
+unfolding rangesOf
+returns c = tab-done _ _ _ _ _ (c .before .loop .inv .2) (search needs) (search needs) (search needs)
+
+pub ranges-spec : {M : Type 1} → statement M
+ranges-spec =
+    tie.close
+    (tie.spec
+    Inv-loop
+    μ-loop
+    loop-holds
+    range-at-requires
+    mul-out
+    array-set-from-out
+    add-i
+    loop-less
+    loop-again
+    returns)

@@ -1,0 +1,194 @@
+//! The command `replay`: reads a file of recorded answers, puts each case to a voice, and says how
+//! many agree. The layout stands in `record.rs`.
+
+use std::fs;
+use std::path::Path;
+
+use seat::{PlainParams, Subject};
+
+use crate::case::*;
+use crate::difference::difference;
+use crate::drive::hear;
+use crate::original::Verdict;
+use crate::record::{MAGIC, VERSION};
+
+/// Replays a file; true if every case agrees.
+pub fn replay(subject: &dyn Subject, path: &Path) -> bool {
+    let bytes = match fs::read(path) {
+        Ok(bytes) => bytes,
+        Err(error) => {
+            println!("{}: {error}", path.display());
+            return false;
+        }
+    };
+    let cases = match read(&bytes) {
+        Some(cases) => cases,
+        None => {
+            println!("{}: not laid out as a file of recorded answers", path.display());
+            return false;
+        }
+    };
+    let of = cases.len();
+    let mut agree = 0;
+    for (at, (case, training)) in cases.into_iter().enumerate() {
+        let verdict = Verdict::Trained(training);
+        match hear(subject, &case).map(|reply| difference(&verdict, &reply)) {
+            Some(None) => agree += 1,
+            Some(Some(words)) => println!("case {at} ({}): {words}", case.kind().name()),
+            None => println!("case {at} ({}): no entry point", case.kind().name()),
+        }
+    }
+    println!("replayed with the {}: {agree} of {of} agree", subject.name());
+    agree == of
+}
+
+/// The bytes not yet read.
+struct Reader<'a>(&'a [u8]);
+
+impl<'a> Reader<'a> {
+    fn bytes(&mut self, length: usize) -> Option<&'a [u8]> {
+        if length > self.0.len() {
+            return None;
+        }
+        let (head, rest) = self.0.split_at(length);
+        self.0 = rest;
+        Some(head)
+    }
+
+    fn words(&mut self, count: usize) -> Option<Vec<u32>> {
+        let bytes = self.bytes(count * 4)?;
+        Some(bytes.chunks_exact(4).map(|b| u32::from_le_bytes(b.try_into().unwrap())).collect())
+    }
+
+    fn count(&mut self) -> Option<usize> {
+        Some(self.words(1)?[0] as usize)
+    }
+
+    fn f32s(&mut self, count: usize) -> Option<Vec<f32>> {
+        Some(self.words(count)?.into_iter().map(f32::from_bits).collect())
+    }
+
+    fn f64s(&mut self, count: usize) -> Option<Vec<f64>> {
+        let bytes = self.bytes(count * 8)?;
+        Some(bytes.chunks_exact(8).map(|b| f64::from_le_bytes(b.try_into().unwrap())).collect())
+    }
+
+    /// Bytes, and the zero bytes that fill the last word.
+    fn padded(&mut self, count: usize) -> Option<Vec<u8>> {
+        let bytes = self.bytes(count.next_multiple_of(4))?;
+        bytes[count..].iter().all(|&b| b == 0).then(|| bytes[..count].to_vec())
+    }
+}
+
+/// All cases of a file; none if it is not laid out as it must be.
+fn read(bytes: &[u8]) -> Option<Vec<(Case, Training)>> {
+    let mut reader = Reader(bytes);
+    if reader.bytes(8)? != MAGIC || reader.words(1)?[0] != VERSION {
+        return None;
+    }
+    let count = reader.count()?;
+    let cases = (0..count).map(|_| read_case(&mut reader)).collect();
+    if reader.0.is_empty() {
+        cases
+    } else {
+        None
+    }
+}
+
+fn read_case(reader: &mut Reader) -> Option<(Case, Training)> {
+    let kind = reader.count()?;
+    let length = reader.count()?;
+    let mut body = Reader(reader.bytes(length)?);
+    let pair = match kind {
+        1 => read_kmeans(&mut body),
+        2 => read_plain(&mut body),
+        3 => read_celled(&mut body),
+        _ => None,
+    }?;
+    body.0.is_empty().then_some(pair)
+}
+
+fn read_kmeans(body: &mut Reader) -> Option<(Case, Training)> {
+    let (d, n) = (body.count()?, body.count()?);
+    let (begin, end) = (body.count()?, body.count()?);
+    let (m, has_residual) = (body.count()?, body.count()? == 1);
+    let (n_center, epochs, lent) = (body.count()?, body.count()?, body.count()?);
+    let rows = body.f32s(n * d)?;
+    let members = body.words(m)?;
+    let residual = if has_residual { Some(body.f32s(d)?) } else { None };
+    let draws = body.f64s(lent)?;
+    let draws_used = body.count()? as u64;
+    let centres = Words::F32(body.f32s(n_center * (end - begin))?);
+    let assigned = Words::U32(body.words(m)?);
+    let buffers = vec![
+        Buffer { name: "centres", words: centres },
+        Buffer { name: "assignment", words: assigned },
+    ];
+    let case = KmeansCase { d, rows, members, begin, end, residual, n_center, epochs, draws };
+    Some((Case::Kmeans(case), Training { draws_used, buffers, results: Vec::new() }))
+}
+
+/// The counts of an index's body after its parameters, and its inputs; queries are not read yet.
+fn read_inputs(body: &mut Reader, params: PlainParams) -> Option<(PlainCase, usize, usize)> {
+    let (epochs, n, lent) = (body.count()?, body.count()?, body.count()?);
+    let (queries, covered) = (body.count()?, body.count()?);
+    let rows = body.f32s(n * params.d)?;
+    let draws = body.f64s(lent)?;
+    Some((PlainCase { params, epochs, rows, draws, queries: Vec::new() }, queries, covered))
+}
+
+fn read_params(body: &mut Reader) -> Option<PlainParams> {
+    Some(PlainParams { d: body.count()?, n_sub: body.count()?, sub_bits: body.count()? })
+}
+
+fn read_plain(body: &mut Reader) -> Option<(Case, Training)> {
+    let params = read_params(body)?;
+    let (mut case, queries, covered) = read_inputs(body, params)?;
+    let draws_used = body.count()? as u64;
+    let sub_centres = Words::F32(body.f32s(covered << params.sub_bits)?);
+    let codes = Words::U8(body.padded(case.n() * params.n_sub)?);
+    let buffers = vec![
+        Buffer { name: "sub-centres", words: sub_centres },
+        Buffer { name: "codes", words: codes },
+    ];
+    let results = read_queries(body, &mut case, queries)?;
+    Some((Case::Plain(case), Training { draws_used, buffers, results }))
+}
+
+fn read_celled(body: &mut Reader) -> Option<(Case, Training)> {
+    let params = read_params(body)?;
+    let (cells, probes) = (body.count()?, body.count()?);
+    let (mut plain, queries, covered) = read_inputs(body, params)?;
+    let draws_used = body.count()? as u64;
+    let coarse = Words::F32(body.f32s(cells * params.d)?);
+    let starts = Words::U32(body.words(cells + 1)?);
+    let members = Words::U32(body.words(plain.n())?);
+    let sub_centres = Words::F32(body.f32s((cells * covered) << params.sub_bits)?);
+    let codes = Words::U8(body.padded(plain.n() * params.n_sub)?);
+    let buffers = vec![
+        Buffer { name: "coarse centres", words: coarse },
+        Buffer { name: "list starts", words: starts },
+        Buffer { name: "list members", words: members },
+        Buffer { name: "sub-centres", words: sub_centres },
+        Buffer { name: "codes", words: codes },
+    ];
+    let results = read_queries(body, &mut plain, queries)?;
+    let case = Case::Celled(CelledCase { plain, cells, probes });
+    Some((case, Training { draws_used, buffers, results }))
+}
+
+/// The queries, put into the case, and their answers.
+fn read_queries(
+    body: &mut Reader,
+    case: &mut PlainCase,
+    count: usize,
+) -> Option<Vec<Result<Results, u32>>> {
+    let mut answers = Vec::new();
+    for _ in 0..count {
+        let k = body.count()?;
+        case.queries.push(Query { point: body.f32s(case.params.d)?, k, mask: None });
+        let (found, scored) = (body.count()? as u64, body.count()? as u64);
+        answers.push(Ok(Results { rows: body.words(k)?, sums: body.f32s(k)?, found, scored }));
+    }
+    Some(answers)
+}
