@@ -1,0 +1,30 @@
+-- Each entry point ensures that its outcome is the definition's: so two outcomes that its promise allows are equal.
+use Prim.Native.Nat.{ℕ}
+use mathlib.Core.Path.{_≡_, sym, _∙_}
+use mathlib.Core.List.{List}
+use Rattle.pq_params.specs.Ranges.{rangesOf}
+use Rattle.pq_idx.specs.Results.{SearchOut}
+use Rattle.pq_idx.specs.Outcomes as Plain
+use Rattle.ivfpq_idx.specs.Training.{TrainIn}
+use Rattle.ivfpq_idx.specs.Outcomes.{TrainOut, trainOutcome, CheckIn, CheckOut, checkOutcome, SearchIn, searchOutcome}
+
+pub determined {ℓ κ} : {I : Type ℓ} {O : Type κ} (f : I → O) (i : I) (x y : O) → x ≡ f i → y ≡ f i → x ≡ y
+determined f i x y p q = p ∙ sym q
+
+pub ranges-determined : (d nsub : ℕ) (x y : List (List ℕ)) → x ≡ rangesOf d nsub → y ≡ rangesOf d nsub → x ≡ y
+ranges-determined d = determined (rangesOf d)
+
+pub plain-training-determined : (i : Plain.TrainIn) (x y : Plain.TrainOut) → x ≡ Plain.trainOutcome i → y ≡ Plain.trainOutcome i → x ≡ y
+plain-training-determined = determined Plain.trainOutcome
+
+pub plain-search-determined : (i : Plain.SearchIn) (x y : SearchOut) → x ≡ Plain.searchOutcome i → y ≡ Plain.searchOutcome i → x ≡ y
+plain-search-determined = determined Plain.searchOutcome
+
+pub celled-training-determined : (i : TrainIn) (x y : TrainOut) → x ≡ trainOutcome i → y ≡ trainOutcome i → x ≡ y
+celled-training-determined = determined trainOutcome
+
+pub check-determined : (i : CheckIn) (x y : CheckOut) → x ≡ checkOutcome i → y ≡ checkOutcome i → x ≡ y
+check-determined = determined checkOutcome
+
+pub celled-search-determined : (i : SearchIn) (x y : SearchOut) → x ≡ searchOutcome i → y ≡ searchOutcome i → x ≡ y
+celled-search-determined = determined searchOutcome
