@@ -5,7 +5,7 @@ use mathlib.Core.List.{List, [], _∷_, _++_, append-assoc, append-nil}
 use native.Mathlib.Nat.{add-sub-cancel-left, add-zero}
 use native.Mathlib.Omega.{arith}
 use lib.ListN.{length, take, drop, set, getD, length-append, length-take, length-drop, drop-of-length-le, List·getD-append, take-append-drop}
-use lib.Seq.{take-append-le, drop-append-le, take-at, drop-at, take-all, drop-drop, getD-take, getD-drop, getD-append-add, take-take}
+use lib.Seq.{take-append-le, drop-append-le, take-at, drop-at, take-all, drop-drop, getD-take, getD-drop, getD-append-add, drop-cons, set-at}
 use Rattle.lists.specs.Lists.{part, putPart}
 
 module _ {ℓ} {A : Type ℓ} where
@@ -76,3 +76,16 @@ module _ {ℓ} {A : Type ℓ} where
   pub put-seam : (xs ys p : List A) (a w : ℕ) → length xs ≡ a → putPart (xs ++ ys) a w p ≡ xs ++ (p ++ drop w ys)
   unfolding putPart
   put-seam xs ys p a w l = rw (take-at xs ys a l, drop-at xs ys a l)
+
+  -- A loop that puts a part in, an element a turn: none is in, and one more is in.
+  pub put-none : (s : List A) (a : ℕ) → s ≡ putPart s a 0 []
+  unfolding putPart
+  put-none s a = sym (take-append-drop a s)
+
+  pub put-more : (s p : List A) (a j : ℕ) (v d : A) → a + j < length s → length p ≡ j → set (putPart s a j p) (a + j) v ≡ putPart s a (suc j) (p ++ (v ∷ []))
+  unfolding putPart
+  put-more s p a j v d h e =
+      let l : length (take a s ++ p) ≡ a + j = length-append (take a s) p ∙ simp length-take (omega arith) in
+      let q : drop j (drop a s) ≡ getD (drop a s) j d ∷ drop (suc j) (drop a s) = drop-cons (drop a s) j d (omega (arith, length-drop a s)) in
+      rw (q, ← append-assoc (take a s) p (getD (drop a s) j d ∷ drop (suc j) (drop a s)))
+      (set-at (take a s ++ p) (getD (drop a s) j d) (drop (suc j) (drop a s)) v (a + j) l ∙ simp append-assoc)

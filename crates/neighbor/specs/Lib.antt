@@ -1,1 +1,3 @@
 pub mod Neighbor
+pub mod Rearranged
+pub mod Held

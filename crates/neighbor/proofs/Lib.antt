@@ -1,0 +1,10 @@
+pub mod Tables
+pub mod Insertion
+pub mod Sorted
+pub mod Order
+pub mod Rearranged
+pub mod Ordered
+pub mod Push
+pub mod Put
+pub mod Held
+pub mod Examples
