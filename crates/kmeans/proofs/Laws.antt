@@ -1,27 +1,33 @@
 -- Laws on the definitions of k-means.
-use Prim.Native.Nat.{ℕ, zero, suc, _+_, _*_, _-_, _≤_, _<_}
+use Prim.Native.Nat.{ℕ, zero, suc, _+_, _*_, _-_, _%_, _≤_, _<_}
+use native.Mathlib.Nat.{mod-add-mod}
 use mathlib.Core.Path.{_≡_, refl, sym, _∙_, ap, ap₂}
-use mathlib.Core.Bool.{Bool, true, false, cond}
+use mathlib.Core.Bool.{Bool, true, false, cond, _&&_}
 use mathlib.Core.List.{List, _++_}
+use native.Mathlib.Decide.{decLt}
 use native.Mathlib.Omega.{arith}
 use native.Mathlib.Numerals.{add-one}
 use lib.ListN.{length, getD, set, drop}
 use lib.Ieee.{Float, nan, binary32, add}
 use lib.Ieee.Scale.{finite}
-use borrow.Author.Tests.{eq-eqb, ne-eqb}
+use borrow.Author.Tests.{eq-eqb, ne-eqb, lt-ltb, le-ltb}
 use Rattle.lists.specs.Lists.{Part, part, putPart, tab, grid}
 use Rattle.lists.specs.Tests.{every, count}
 use Rattle.lists.proofs.Tests.{every-ext, count-yes, count-no}
 use Rattle.lists.proofs.Tables.{length-tab, tab-ext, getD-tab, tab-set}
-use Rattle.lists.proofs.Joins.{grid-ext, part-grid, put-grid, getD-grid, grid-rest}
-use Rattle.lists.proofs.Parts.{getD-part}
+use Rattle.lists.proofs.Joins.{grid-ext, part-grid, put-grid, getD-grid, grid-rest, within}
+use Rattle.lists.proofs.Parts.{getD-part, getD-putPart-before, getD-putPart-after, put-more}
 use Rattle.metrics.specs.Distance.{squared, worked, distance, coordinateIn, valueIn, valueOf, sumTo}
 use Rattle.metrics.specs.declared.Worked.{Worked}
 use Rattle.metrics.proofs.Laws.{squared-ext}
+use Rattle.kmeans.specs.declared.Step.the-variants.{Start, Averaging, Splitting}
+use Rattle.kmeans.specs.declared.Clustered.{Clustered}
+use Rattle.kmeans.specs.declared.Clustered.the-variants.{Done, OutOfDraws}
+use Rattle.kmeans.specs.declared.Clustered.the-variants.{NotFinite as CenterNotFinite}
 use Rattle.kmeans.specs.declared.Frame.{Frame}
 use Rattle.kmeans.specs.Frame.{memberOf, valueAt, taskOf, Framed}
-use Rattle.kmeans.specs.Kmeans.{Task, lessOf, nearest, distanceTo, chosen, coordinate, started, startAt, meanAt, meanOf, isOf, countAt, sumWhere, averageAt, averagesOf, countsOf, finiteCenter, finiteCoordinate}
-use Rattle.kmeans.specs.Inner.{addedAt, addedTo, columnSum, centerSum, meanIn, meansOf, meansAt, startFrom, finiteIn}
+use Rattle.kmeans.specs.Kmeans.{Task, lessOf, nearest, distanceTo, chosen, coordinate, started, startAt, meanAt, meanOf, isOf, countAt, sumWhere, averageAt, averagesOf, countsOf, finiteCenter, finiteCoordinate, gotAt, leftAt, splitCenters, splitCounts, splitOff, walkAt, Run, stepsOf, drawsLeft, fillCenter, answered}
+use Rattle.kmeans.specs.Inner.{addedAt, addedTo, columnSum, centerSum, meanIn, meansOf, meansAt, startFrom, finiteIn, leftIn, runOf}
 
 -- ---- assign
 
@@ -173,3 +179,60 @@ pub stretch-finite : (cs c : List Float) (w i : ℕ) → Part cs (i * w) w c →
 unfolding finiteCenter
 stretch-finite cs c w i p =
     rw (p .long) (every-ext (finiteIn c) (finiteCoordinate cs w i) w (λ j h. ap finite (ap (λ (l : List Float). getD l j nan) (p .is) ∙ getD-part cs (i * w) w j nan h)))
+
+-- ---- split
+
+-- a coordinate of another centre is not in the stretch of centre i
+pub donor-read : (cs p : List Float) (w i a j l : ℕ) → i * w + w ≤ length cs → (a ≡ i → ⊥) → j < w → l ≤ w → length p ≡ l
+    → getD (putPart cs (i * w) l p) (a * w + j) nan ≡ coordinate cs w a j
+donor-read cs p w i a j l h n k m e = elim (decLt a i) [
+  | yes q ↦ getD-putPart-before cs p (i * w) l (a * w + j) nan (omega arith) (omega (arith, within a i w q))
+  | no q ↦ getD-putPart-after cs p (i * w) l (a * w + j) nan (omega arith) e (omega (arith, within i a w (lt-of-le-of-ne (omega arith) n)))
+]
+  where
+    lt-of-le-of-ne : i ≤ a → (a ≡ i → ⊥) → i < a
+    lt-of-le-of-ne q r = elim (decLt i a) [ yes s ↦ s | no s ↦ absurd (r (omega arith)) ]
+
+-- one more coordinate of centre i is given
+pub give-step : (cs now : List Float) (w i a j : ℕ) (v : Float) → i * w + w ≤ length cs → a * w + w ≤ length cs → (a ≡ i → ⊥) → j < w
+    → now ≡ putPart cs (i * w) j (tab (gotAt (coordinate cs w a)) j) → v ≡ gotAt (λ (k : ℕ). getD now (a * w + k) nan) j
+    → set now (i * w + j) v ≡ putPart cs (i * w) (j + 1) (tab (gotAt (coordinate cs w a)) (j + 1))
+unfolding tab
+give-step cs now w i a j v h k n l e f =
+    let t = tab (gotAt (coordinate cs w a)) j in
+    let m = length-tab (gotAt (coordinate cs w a)) j in
+    let q : v ≡ gotAt (coordinate cs w a) j = f ∙ rw (e, donor-read cs t w i a j j h n l (omega arith) m) in
+    rw (q, e, add-one) (put-more cs t (i * w) j (gotAt (coordinate cs w a) j) nan (omega arith) m)
+
+-- the donor walk's next step
+pub walk-next : (t : Task) (i s a b : ℕ) → a ≡ walkAt t i s → b ≡ (a + 1) % (t .centers) → b ≡ walkAt t i (s + 1)
+walk-next t i s a b e f =
+    let g : i + 1 + (s + 1) ≡ i + 1 + s + 1 = omega arith in
+    f ∙ rw (e, g) (mod-add-mod (i + 1 + s) (t .centers) 1)
+
+-- the donor's own coordinates are as they were when it is moved the other way
+pub split-is : (cs now : List Float) (w i a : ℕ) → i * w + w ≤ length cs → a * w + w ≤ length cs → (a ≡ i → ⊥)
+    → now ≡ putPart cs (i * w) w (tab (gotAt (coordinate cs w a)) w) → putPart now (a * w) w (tab (leftIn (part now (a * w) w)) w) ≡ splitCenters cs w i a
+unfolding splitCenters
+split-is cs now w i a h k n e =
+    let t = tab (gotAt (coordinate cs w a)) w in
+    rw e (ap (putPart (putPart cs (i * w) w t) (a * w) w) (tab-ext _ _ w (λ j l.
+    ap (λ (v : Float). leftAt (λ (k : ℕ). v) j) (getD-part (putPart cs (i * w) w t) (a * w) w j nan l ∙ donor-read cs t w i a j w h n l (omega arith) (length-tab _ w)))))
+
+-- what splitting centre i off the donor a leaves, where b says that both are finite
+pub split-run : (t : Task) (epoch i a used : ℕ) (cs now : List Float) (to counts now' : List ℕ) (q : Clustered) → now ≡ splitCenters cs (t .w) i a → now' ≡ splitCounts counts i a
+    → (b : Bool) → b ≡ (finiteCenter now (t .w) i && finiteCenter now (t .w) a)
+    → runOf (cond b (Done used) (CenterNotFinite Splitting epoch i)) now to now' ≡ splitOff t epoch i a used (runOf q cs to counts)
+unfolding splitOff
+split-run t epoch i a used cs now to counts now' q e f b g = rw (g, e, f)
+
+-- an empty centre is filled, or the draws end first
+pub fill-split : (t : Task) (epoch i used s : ℕ) (r q : Run) → s ≡ stepsOf t (r .counts) used i → s < drawsLeft t used
+    → q ≡ splitOff t epoch i (walkAt t i s) (used + s + 1) r → q ≡ fillCenter t epoch i used r
+unfolding fillCenter
+fill-split t epoch i used s r q e h f = f ∙ rw (← e, lt-ltb s (drawsLeft t used) h)
+
+pub fill-out : (t : Task) (epoch i used s : ℕ) (r : Run) → s ≡ stepsOf t (r .counts) used i → drawsLeft t used ≤ s
+    → answered (OutOfDraws epoch i) r ≡ fillCenter t epoch i used r
+unfolding fillCenter
+fill-out t epoch i used s r e h = rw (← e, le-ltb s (drawsLeft t used) h)

@@ -1,13 +1,18 @@
 -- What the inner functions leave in the slices that they are lent.
-use Prim.Native.Nat.{ℕ, _+_, _*_}
-use mathlib.Core.List.{List}
+use Prim.Native.Nat.{ℕ, _+_, _*_, _≤_, _<_}
+use mathlib.Core.Path.{_≡_}
+use mathlib.Core.List.{List, []}
 use mathlib.Core.Bool.{Bool, cond}
-use lib.ListN.{getD, set}
+use lib.ListN.{length, getD, set}
 use lib.Ieee.{Float, nan, binary32, add, sub}
 use lib.Ieee.Scale.{finite}
 use Rattle.lists.specs.Lists.{part, putPart, tab}
-use Rattle.metrics.specs.Distance.{valueIn, sumTo}
-use Rattle.kmeans.specs.Kmeans.{Task, column, raised, one32, meanOf, sumWhere, isOf}
+use Rattle.metrics.specs.Distance.{coordinateIn, valueIn, sumTo}
+use Rattle.kmeans.specs.declared.Clustered.{Clustered}
+use Rattle.kmeans.specs.declared.Frame.{Frame}
+use Rattle.kmeans.specs.Splits.{NotNegative}
+use Rattle.kmeans.specs.Frame.{taskOf}
+use Rattle.kmeans.specs.Kmeans.{Task, Run, column, raised, one32, meanOf, sumWhere, isOf, leftAt}
 
 -- sums with the values of one more row
 abbrev pub addedAt : List Float → Bool → List Float → List Float → ℕ → Float
@@ -44,3 +49,26 @@ meansAt cs counts w i j = meanOf (getD counts i 0) (getD cs (i * w + j) nan)
 -- whether coordinate j of a slice is finite
 abbrev pub finiteIn : List Float → ℕ → Bool
 finiteIn s j = finite (getD s j nan)
+
+-- a donor's slice after it gave
+abbrev pub leftIn : List Float → ℕ → Float
+leftIn s j = leftAt (coordinateIn s) j
+
+-- what a k-means has reached, from the answer and the lent runs
+abbrev pub runOf : Clustered → List Float → List ℕ → List ℕ → Run
+runOf answer centers assigned counts = record { answer = answer; centers = centers; assigned = assigned; counts = counts }
+
+-- the k-means as splitting sees it: without its rows
+abbrev pub splitTask : Frame → List Float → Task
+splitTask f draws = taskOf f [] [] [] 0 draws
+
+-- the lent runs are as long as the frame says, the draws are in range, and no more are used than lent
+pub record Splittable (f : Frame) (draws : List Float) (used : ℕ) (centers : List Float) (counts : List ℕ) : Type 0 where
+  pub rows-le : f .n ≤ 100_001
+  pub some-center : 0 < f .centers
+  pub centers-le : f .centers ≤ 1024
+  pub wide : f .w ≤ 256
+  pub centers-long : length centers ≡ f .centers * f .w
+  pub counts-long : length counts ≡ f .centers
+  pub in-range : NotNegative draws
+  pub drawn : used ≤ length draws
