@@ -44,7 +44,12 @@ fn copy_with(slip: &list::Slip, folder: &Path) {
 fn planted(slip: &list::Slip, mut text: String) -> String {
     for (from, to) in slip.edits {
         let times = text.matches(from).count();
-        assert!(times == 1, "slip \"{}\": its text stands {times} times in {}: {from}", slip.says, slip.file);
+        assert!(
+            times == 1,
+            "slip \"{}\": its text stands {times} times in {}: {from}",
+            slip.says,
+            slip.file
+        );
         text = text.replace(from, to);
     }
     text

@@ -34,6 +34,7 @@ fn step<T>(what: &str, run: impl FnOnce() -> T) -> Result<T, String> {
     })
 }
 
+/// A plain index: made, filled, trained, searched.
 fn plain(case: &PlainCase) -> Result<String, String> {
     let params = case.params;
     let mut index: PQIndex<f32, usize> = step("making the index", || {
@@ -42,10 +43,12 @@ fn plain(case: &PlainCase) -> Result<String, String> {
     })?;
     let mut words = add(&mut index, case)?;
     train(&mut index, case)?;
-    words += &format!("sub-centres {}", list(reach::sub_centres(&index).iter().flatten().flatten()));
+    words +=
+        &format!("sub-centres {}", list(reach::sub_centres(&index).iter().flatten().flatten()));
     search(&index, case, words)
 }
 
+/// A celled index: made, filled, trained, searched.
 fn celled(case: &CelledCase) -> Result<String, String> {
     let params = case.plain.params;
     let mut index: IVFPQIndex<f32, usize> = step("making the index", || {
@@ -75,6 +78,7 @@ fn add(index: &mut impl ANNIndex<f32, usize>, case: &PlainCase) -> Result<String
     Ok(words)
 }
 
+/// Trains with the draws lent.
 fn train(index: &mut impl ANNIndex<f32, usize>, case: &PlainCase) -> Result<(), String> {
     rand::lend_list(&case.draws);
     step("training", || index.build(Euclidean).expect("training answers no error"))

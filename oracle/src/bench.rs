@@ -10,7 +10,6 @@ use crate::case::*;
 use crate::chance::Chance;
 use crate::difference::difference;
 use crate::drive::hear;
-use crate::generate::{rows, Grain};
 use crate::original::{celled_index, fill, judge, plain_index};
 
 const D: usize = 128;
@@ -28,17 +27,31 @@ struct Seconds {
 pub fn bench(subject: &dyn Subject) -> bool {
     let plain = PlainParams { d: D, n_sub: 4, sub_bits: 4 };
     let celled = PlainParams { d: D, n_sub: 25, sub_bits: 4 };
-    println!("plain: D {D}, rows {ROWS}, n_sub 4, sub_bits 4, epochs 100, {QUERIES} searches of k {K}");
+    println!(
+        "plain: D {D}, rows {ROWS}, n_sub 4, sub_bits 4, epochs 100, {QUERIES} searches of k {K}"
+    );
     one(subject, Case::Plain(input(plain, 100)));
     println!("celled: D {D}, rows {ROWS}, n_sub 25, sub_bits 4, cells 256, probes 8, epochs 5, {QUERIES} searches of k {K}");
     one(subject, Case::Celled(CelledCase { plain: input(celled, 5), cells: 256, probes: 8 }));
     true
 }
 
-/// Rows that leave no cell empty, more draws than are used, and queries near rows.
+/// Rows that differ mostly in the direction in which a split parts centres (even coordinates up, odd
+/// ones down), so that no cell comes out empty: there the Rust panics.
+fn rows(chance: &mut Chance) -> Vec<f32> {
+    let mut rows = Vec::with_capacity(ROWS * D);
+    for _ in 0..ROWS {
+        let apart = 100.0 * chance.signed();
+        let sides = [1000.0 + apart, 1000.0 - apart];
+        rows.extend((0..D).map(|j| (sides[j % 2] + 5.0 * chance.signed()) as f32));
+    }
+    rows
+}
+
+/// The rows, more draws than are used, and queries near rows.
 fn input(params: PlainParams, epochs: usize) -> PlainCase {
     let mut chance = Chance::new(1);
-    let rows = rows(&mut chance, Grain::Wide, ROWS, D);
+    let rows = rows(&mut chance);
     let draws = (0..12_000_000).map(|_| chance.unit()).collect();
     let mut queries = Vec::new();
     for _ in 0..QUERIES {
@@ -59,16 +72,17 @@ fn one(subject: &dyn Subject, case: Case) {
     };
     print(subject.name(), &voice);
     println!(
-        "  {} / the Rust: training {:.2}, searches {:.2}",
+        "  {} / the Rust: training {:.3}, searches {:.3}",
         subject.name(),
         voice.training / rust.training,
         voice.searches / rust.searches
     );
     let reply = hear(subject, &case).expect("it was timed");
     let words = difference(&judge(&case), &reply).unwrap_or("equal answers".to_string());
-    println!("  {words}");
+    println!("  {words}, draws used {}", rand::used());
 }
 
+/// One line of seconds.
 fn print(name: &str, seconds: &Seconds) {
     println!("  {name}: training {:.3} s, searches {:.4} s", seconds.training, seconds.searches);
 }
@@ -97,7 +111,9 @@ fn time_rust(case: &Case) -> Seconds {
 
 /// An index of the Rust, of either kind.
 trait Timed {
+    /// Adds the rows and trains.
     fn train(&mut self, rows: &[f32]);
+    /// Searches; how many rows were found.
     fn find(&self, query: &Query) -> usize;
 }
 

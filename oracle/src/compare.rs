@@ -12,7 +12,7 @@ use crate::chance::Chance;
 use crate::difference::difference;
 use crate::drive::hear;
 use crate::generate::fitted;
-use crate::original::{judge, Verdict};
+use crate::original::{judge, ranges as original_ranges, Verdict};
 use crate::shrink::shrink;
 use crate::tally::Tally;
 
@@ -39,7 +39,16 @@ pub fn seed_of(run: u64, at: usize) -> u64 {
 pub fn compare(subject: &dyn Subject, order: &Order) -> bool {
     let begun = Instant::now();
     let names: Vec<&str> = order.kinds.iter().map(|kind| kind.name()).collect();
-    println!("compare: {} beside the Rust, {} cases of {}, seed {}", subject.name(), order.cases, names.join(", "), order.seed);
+    println!(
+        "compare: {} beside the Rust, {} cases of {}, seed {}",
+        subject.name(),
+        order.cases,
+        names.join(", "),
+        order.seed
+    );
+    if !ranges_agree(subject) {
+        return false;
+    }
     let (tally, found) = run(subject, order);
     tally.print();
     println!("seconds {:.1}", begun.elapsed().as_secs_f64());
@@ -53,6 +62,29 @@ pub fn compare(subject: &dyn Subject, order: &Order) -> bool {
             tally.compared() > 0
         }
     }
+}
+
+/// The range rule on every D and n_sub within bounds.
+fn ranges_agree(subject: &dyn Subject) -> bool {
+    let mut compared = 0;
+    for d in 1..=256 {
+        for n_sub in 1..=d.min(64) {
+            let Some(heard) = subject.ranges(d, n_sub) else {
+                println!("  ranges: left out, no entry point");
+                return true;
+            };
+            let rust = original_ranges(d, n_sub);
+            if heard != Ok(rust) {
+                println!(
+                    "DIFFERENT: ranges of D {d}, n_sub {n_sub}: the Rust {rust:?}, heard {heard:?}"
+                );
+                return false;
+            }
+            compared += 1;
+        }
+    }
+    println!("  ranges: {compared} pairs of D and n_sub agree");
+    true
 }
 
 /// All cases, on as many threads as there are cores; each case is decided by its number alone. The
@@ -94,7 +126,7 @@ fn keep_first(kept: &mut Option<Found>, found: Found) {
 fn one(subject: &dyn Subject, kind: Kind, run: u64, at: usize, tally: &mut Tally) -> Option<Found> {
     let (case, verdict, outside) = fitted(kind, seed_of(run, at));
     let reply = hear(subject, &case);
-    tally.count(&case, &verdict, outside, reply.is_some());
+    tally.count(&case, &verdict, outside, reply.as_ref());
     let words = difference(&verdict, &reply?)?;
     Some(Found { at, case, words })
 }

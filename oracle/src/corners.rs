@@ -68,7 +68,9 @@ fn within_limits(case: &mut Case) {
     assert!(case.draws().len() <= limits::DRAWS);
     let (cells, index) = match case {
         Case::Kmeans(case) => {
-            assert!(case.rows.len() <= limits::ROW_WORDS && case.rows.len() / case.d <= limits::ROWS);
+            assert!(
+                case.rows.len() <= limits::ROW_WORDS && case.rows.len() / case.d <= limits::ROWS
+            );
             assert!(case.n_center * (case.end - case.begin) <= limits::SUB_CENTRE_WORDS);
             return;
         }
@@ -77,7 +79,7 @@ fn within_limits(case: &mut Case) {
     };
     let PlainParams { d, n_sub, sub_bits } = index.params;
     assert!(index.rows.len() <= limits::ROW_WORDS && index.n() <= limits::ROWS);
-    assert!(cells * page::covered(d, n_sub) << sub_bits <= limits::SUB_CENTRE_WORDS);
+    assert!((cells * page::covered(d, n_sub)) << sub_bits <= limits::SUB_CENTRE_WORDS);
     assert!(index.queries.len() <= limits::QUERIES);
     assert!(index.queries.iter().all(|query| query.k <= limits::K));
 }
@@ -148,12 +150,13 @@ fn kmeans(
 ) -> Case {
     let narrow = [(1, 0, 1), (2, 0, 2), (64, 60, 64), (256, 249, 256)];
     let wide = [(63, 0, 63), (65, 0, 65), (128, 1, 128), (256, 190, 256)];
-    let choose_narrow = n_center > 40 || turn % 3 == 0;
+    let choose_narrow = n_center > 40 || turn.is_multiple_of(3);
     let (d, begin, end) = if choose_narrow { narrow[turn % 4] } else { wide[turn % 4] };
     let n = [1, 2, 5, 9, if d > 2 { 20 } else { 100 }][turn % 5];
     let grain = GRAINS[turn % GRAINS.len()];
     let rows = rows(chance, grain, n, d);
-    let members: Vec<u32> = (0..n as u32).filter(|row| turn % 2 == 0 || row % 4 != 2).collect();
+    let members: Vec<u32> =
+        (0..n as u32).filter(|row| turn.is_multiple_of(2) || row % 4 != 2).collect();
     let residual = with_residual.then(|| point(chance, grain, d));
     let draws = draws(chance, members.len());
     Case::Kmeans(KmeansCase { d, rows, members, begin, end, residual, n_center, epochs, draws })
@@ -167,7 +170,17 @@ fn giant_kmeans(chance: &mut Chance, grain: Grain, n: usize) -> Case {
     let residual = chance.one_in(2).then(|| vec![coordinate(chance, grain); d]);
     let (n_center, epochs) = (chance.between(2, 5), chance.between(1, 3));
     let draws = draws(chance, n);
-    Case::Kmeans(KmeansCase { d, rows, members, begin: 0, end: d, residual, n_center, epochs, draws })
+    Case::Kmeans(KmeansCase {
+        d,
+        rows,
+        members,
+        begin: 0,
+        end: d,
+        residual,
+        n_center,
+        epochs,
+        draws,
+    })
 }
 
 /// Plain: every D with every n_sub and every sub_bits, the epochs in turn.
@@ -208,7 +221,7 @@ fn plain(chance: &mut Chance, turn: usize, params: PlainParams, epochs: usize) -
 /// Queries for one to four of the k that matter: 1, n, more than n, 0.
 fn queries(chance: &mut Chance, turn: usize, grain: Grain, rows: &[f32], d: usize) -> Vec<Query> {
     let n = rows.len() / d;
-    let more = if turn % 16 == 0 { limits::K } else { n + 1 + turn % 5 };
+    let more = if turn.is_multiple_of(16) { limits::K } else { n + 1 + turn % 5 };
     let ks = [1, n, more, 0];
     let mut list = Vec::new();
     for at in 0..[2, 4, 1][turn % 3] {
@@ -229,7 +242,9 @@ fn celled_corners(list: &mut Vec<(Case, Training)>) {
     let small = [(1, 1), (2, 1), (2, 2), (8, 3)];
     let large = [(63, 25), (64, 64), (65, 25), (128, 25), (256, 1)];
     let mut turn = 0;
-    for (cells, all_epochs) in [(1, &[0, 1, 2, 5][..]), (2, &[0, 1, 2, 5]), (7, &[1, 2, 5]), (40, &[1, 5])] {
+    for (cells, all_epochs) in
+        [(1, &[0, 1, 2, 5][..]), (2, &[0, 1, 2, 5]), (7, &[1, 2, 5]), (40, &[1, 5])]
+    {
         for &epochs in all_epochs {
             for sub_bits in [0, 1, 4] {
                 for shape in [small[turn % 4], large[turn % 5], small[(turn + 1) % 4]] {
@@ -260,13 +275,21 @@ fn celled(
 ) -> Case {
     let crowded = epochs > 1 && cells > 2;
     let most = limits::ROWS.min(limits::ROW_WORDS / params.d);
-    let n = if crowded { (cells * if params.d > 8 { 6 } else { 9 }).min(most) } else { [2, 5, 30, 9][turn % 4].min(most) };
+    let n = if crowded {
+        (cells * if params.d > 8 { 6 } else { 9 }).min(most)
+    } else {
+        [2, 5, 30, 9][turn % 4].min(most)
+    };
     let grain = if crowded { Grain::Near } else { GRAINS[turn % GRAINS.len()] };
     let rows = rows(chance, grain, n, params.d);
     let draws = draws(chance, n);
     let queries = queries(chance, turn, grain, &rows, params.d);
     let probes = [1, cells, cells.div_ceil(2)][turn % 3];
-    Case::Celled(CelledCase { plain: PlainCase { params, epochs, rows, draws, queries }, cells, probes })
+    Case::Celled(CelledCase {
+        plain: PlainCase { params, epochs, rows, draws, queries },
+        cells,
+        probes,
+    })
 }
 
 /// The corners that a case stands at.

@@ -27,7 +27,9 @@ fn not_refused(right: &Refused, reply: &Reply) -> Option<String> {
     }
     let left = reply.buffers.iter().find(|buffer| buffer.words.bits().iter().any(|&w| w != 0));
     match left {
-        Some(buffer) => Some(format!("after refusal {} the {} are not zero", right.number, buffer.name)),
+        Some(buffer) => {
+            Some(format!("after refusal {} the {} are not zero", right.number, buffer.name))
+        }
         None => work_left(reply),
     }
 }
@@ -66,6 +68,9 @@ fn not_trained(training: &Training, reply: &Reply) -> Option<String> {
     if let Some(words) = unequal {
         return words;
     }
+    if let Some(Err(number)) = reply.check {
+        return Some(format!("the whole check refuses the trained index with {number}"));
+    }
     work_left(reply).or_else(|| {
         let pairs = training.results.iter().zip(&reply.searches).enumerate();
         pairs.map(|(at, (right, heard))| unequal_search(at, right, heard)).find(Option::is_some)?
@@ -97,7 +102,10 @@ fn unequal_bits(name: &str, right: &[u32], heard: &[u32]) -> Option<String> {
 fn unequal_search(at: usize, right: &Result<Results, u32>, heard: &Heard) -> Option<String> {
     let words = match (right, heard.answer) {
         (Ok(right), Ok(answer)) if (right.found, right.scored) != (answer.found, answer.scored) => {
-            Some(format!("the Rust found {} scored {}, heard {answer:?}", right.found, right.scored))
+            Some(format!(
+                "the Rust found {} scored {}, heard {answer:?}",
+                right.found, right.scored
+            ))
         }
         (Ok(right), Ok(_)) => unequal_bits("rows", &right.rows, &heard.rows)
             .or_else(|| unequal_bits("sums", &bits(&right.sums), &bits(&heard.sums))),
@@ -119,6 +127,7 @@ fn not_blank(heard: &Heard) -> Option<String> {
     (!blank).then(|| "the results of a refused search are not blank".to_string())
 }
 
+/// A list of f32 as bits.
 fn bits(list: &[f32]) -> Vec<u32> {
     list.iter().map(|x| x.to_bits()).collect()
 }

@@ -49,6 +49,7 @@ fn celled(rows: &[f32], cells: usize, probes: usize, epochs: usize) -> CelledCas
     CelledCase { plain: PlainCase { epochs, ..plain(rows) }, cells, probes }
 }
 
+/// One query with all rows visible.
 fn query(point: &[f32], k: usize) -> Vec<Query> {
     vec![Query { point: point.to_vec(), k, mask: None }]
 }
@@ -64,10 +65,12 @@ fn items() -> Vec<Item> {
     list
 }
 
+/// An item of the list.
 fn item(title: &'static str, case: Case, why: &'static str) -> Item {
     Item { title, case, why }
 }
 
+/// Ties among rows and among cells.
 fn ties() -> Vec<Item> {
     let two = |k| Case::Plain(PlainCase { queries: query(&[0.0], k), ..plain(&[0.0, 0.0]) });
     let mut cells = celled(&[-1.0, 1.0], 3, 2, 1);
@@ -84,6 +87,7 @@ fn ties() -> Vec<Item> {
     ]
 }
 
+/// Cells without rows.
 fn empty_cells() -> Vec<Item> {
     vec![
         item(
@@ -102,6 +106,7 @@ fn empty_cells() -> Vec<Item> {
     ]
 }
 
+/// Centres that come out not finite, at each step that can make them.
 fn overflow_in_training() -> Vec<Item> {
     let centre = "document 01 refuses a centre that is not finite, and names the place";
     let one_bit = |rows: &[f32], draws: &[f64]| {
@@ -140,11 +145,13 @@ fn overflow_in_training() -> Vec<Item> {
 const AVERAGING: [f32; 5] =
     [2.4e38, f32::from_bits(0xfdf0_816b), 1.4e38, -3e38, f32::from_bits(0xff34_95c4)];
 
+/// Distances and sums that come out not finite.
 fn overflow_in_search() -> Vec<Item> {
     let why = "document 01 refuses a search in which a distance or sum is not finite";
     let wide = PlainParams { d: 2, n_sub: 2, sub_bits: 0 };
     let entry = PlainCase { queries: query(&[2e19], 1), ..plain(&[0.0]) };
-    let sum = PlainCase { params: wide, queries: query(&[1.5e19, 1.5e19], 1), ..plain(&[0.0, 0.0]) };
+    let sum =
+        PlainCase { params: wide, queries: query(&[1.5e19, 1.5e19], 1), ..plain(&[0.0, 0.0]) };
     let mut far = celled(&[0.0, 4e19], 2, 1, 1);
     far.plain.queries = query(&[0.0], 1);
     let mut coarse = celled(&[0.0], 1, 1, 0);
@@ -168,6 +175,7 @@ fn overflow_in_search() -> Vec<Item> {
     ]
 }
 
+/// Inputs that document 01 refuses by tests 2 to 7, and draws used up.
 fn no_such_input() -> Vec<Item> {
     let with_epochs = |epochs| Case::Plain(PlainCase { epochs, ..plain(&[]) });
     let none = "document 01 refuses a training without rows";
@@ -199,6 +207,7 @@ fn no_such_input() -> Vec<Item> {
     ]
 }
 
+/// Parameters and results asked for outside their bounds.
 fn outside_bounds() -> Vec<Item> {
     let bound = "a bound that only document 01 has";
     let panics = "both refuse, the Rust by a panic";
@@ -233,7 +242,9 @@ fn input(case: &Case) -> String {
     let (words, index) = match case {
         Case::Kmeans(_) => unreachable!("no disagreement is shown on k-means alone"),
         Case::Plain(case) => ("plain".to_string(), case),
-        Case::Celled(case) => (format!("celled, cells {}, probes {}", case.cells, case.probes), &case.plain),
+        Case::Celled(case) => {
+            (format!("celled, cells {}, probes {}", case.cells, case.probes), &case.plain)
+        }
     };
     let PlainParams { d, n_sub, sub_bits } = index.params;
     let rows: Vec<&[f32]> = index.rows.chunks_exact(d.max(1)).collect();
@@ -243,7 +254,10 @@ fn input(case: &Case) -> String {
         n @ 9.. => format!("{n} rows, each {}", row(&rows[0])),
         _ => format!("rows {}", rows.iter().map(row).collect::<Vec<String>>().join(" ")),
     };
-    let mut words = format!("{words}, D {d}, n_sub {n_sub}, sub_bits {sub_bits}, epochs {}; {rows}", index.epochs);
+    let mut words = format!(
+        "{words}, D {d}, n_sub {n_sub}, sub_bits {sub_bits}, epochs {}; {rows}",
+        index.epochs
+    );
     if !index.draws.is_empty() {
         words += &format!("; draws {}", list(index.draws.iter()));
     }
@@ -287,7 +301,10 @@ fn refused(refusal: seat::Refusal) -> String {
                 Step::Averaging => "averaging",
                 Step::Splitting => "splitting",
             };
-            format!("training refused with 9 at {}, epoch {epoch}, centre {centre}, {step}", at(stage))
+            format!(
+                "training refused with 9 at {}, epoch {epoch}, centre {centre}, {step}",
+                at(stage)
+            )
         }
     }
 }

@@ -51,6 +51,7 @@ pub fn check(inputs: usize, seed: u64) -> bool {
 }
 
 impl Reached {
+    /// Counts a distance by what it is.
     fn count(&mut self, distance: f32) {
         if distance == 0.0 {
             self.zero += 1;
@@ -63,6 +64,7 @@ impl Reached {
         }
     }
 
+    /// Prints the counts.
     fn print(&self) {
         println!(
             "distances of 0: {}, subnormal: {}, ordinary: {}, not finite: {} (with an infinite input: {})",

@@ -4,8 +4,8 @@
 use std::time::Instant;
 
 use seat::{
-    CelledIndex, CelledSearch, CelledTraining, Kmeans, PlainParams, PlainSearch, PlainTraining,
-    Searched, Subject, Trained,
+    CelledCheck, CelledIndex, CelledSearch, CelledTraining, Checked, Kmeans, PlainParams,
+    PlainSearch, PlainTraining, Searched, Subject, Trained,
 };
 
 use crate::case::*;
@@ -15,7 +15,10 @@ pub struct Reply {
     pub answer: Trained,
     pub buffers: Vec<Buffer>,
     pub work: Vec<u32>,
+    /// The searches heard; none if the voice trains but does not search yet.
     pub searches: Vec<Heard>,
+    /// What the whole check says to a trained celled index, if the voice has it.
+    pub check: Option<Checked>,
 }
 
 /// One search as heard, and the seconds that it took.
@@ -40,6 +43,7 @@ pub fn hear(subject: &dyn Subject, case: &Case) -> Option<Reply> {
     }
 }
 
+/// A k-means put to a voice.
 fn hear_kmeans(subject: &dyn Subject, case: &KmeansCase) -> Option<Reply> {
     let mut centres = vec![JUNK_F32; case.n_center * (case.end - case.begin)];
     let mut assigned = vec![JUNK_U32; case.members.len()];
@@ -60,9 +64,10 @@ fn hear_kmeans(subject: &dyn Subject, case: &KmeansCase) -> Option<Reply> {
         Buffer { name: "centres", words: Words::F32(centres) },
         Buffer { name: "assignment", words: Words::U32(assigned) },
     ];
-    Some(Reply { answer, buffers, work: Vec::new(), searches: Vec::new() })
+    Some(Reply { answer, buffers, work: Vec::new(), searches: Vec::new(), check: None })
 }
 
+/// A plain index put to a voice.
 fn hear_plain(subject: &dyn Subject, case: &PlainCase) -> Option<Reply> {
     let (n, params) = (case.n(), case.params);
     let mut sub_centres = vec![JUNK_F32; page::covered(params.d, params.n_sub) << params.sub_bits];
@@ -80,23 +85,40 @@ fn hear_plain(subject: &dyn Subject, case: &PlainCase) -> Option<Reply> {
     })?;
     let mut searches = Vec::new();
     if answer.is_ok() {
-        for query in &case.queries {
-            let (codes, mask) = under_mask(query, &codes, params, n);
-            let lent = Lent::new(query.k, params.n_sub << params.sub_bits);
-            searches.push(lent.search(|table, rows, sums| {
-                let (sub_centres, codes, mask) = (&sub_centres[..], &codes[..], &mask[..]);
-                let query = &query.point[..];
-                subject.search_plain(PlainSearch {
-                    params, n, sub_centres, codes, mask, query, table, rows, sums,
-                })
-            })?);
-        }
+        let search = |query| search_plain(subject, case, &sub_centres, &codes, query);
+        searches = case.queries.iter().filter_map(search).collect();
     }
     let buffers = vec![
         Buffer { name: "sub-centres", words: Words::F32(sub_centres) },
         Buffer { name: "codes", words: Words::U8(codes) },
     ];
-    Some(Reply { answer, buffers, work, searches })
+    Some(Reply { answer, buffers, work, searches, check: None })
+}
+
+/// One search of a trained plain index.
+fn search_plain(
+    subject: &dyn Subject,
+    case: &PlainCase,
+    sub_centres: &[f32],
+    codes: &[u8],
+    query: &Query,
+) -> Option<Heard> {
+    let (n, params) = (case.n(), case.params);
+    let (codes, mask) = under_mask(query, codes, params, n);
+    let (codes, mask, point) = (&codes[..], &mask[..], &query.point[..]);
+    Lent::new(query.k, params.n_sub << params.sub_bits).search(|table, rows, sums| {
+        subject.search_plain(PlainSearch {
+            params,
+            n,
+            sub_centres,
+            codes,
+            mask,
+            query: point,
+            table,
+            rows,
+            sums,
+        })
+    })
 }
 
 /// The five buffers of a celled index, lent full of junk.
@@ -109,6 +131,7 @@ struct CelledBuffers {
 }
 
 impl CelledBuffers {
+    /// Buffers of the right lengths.
     fn new(case: &CelledCase) -> CelledBuffers {
         let (n, plain, cells) = (case.plain.n(), case.plain.params, case.cells);
         let covered = page::covered(plain.d, plain.n_sub);
@@ -121,6 +144,18 @@ impl CelledBuffers {
         }
     }
 
+    /// The index that they hold, with these codes.
+    fn index<'a>(&'a self, codes: &'a [u8]) -> CelledIndex<'a> {
+        CelledIndex {
+            coarse: &self.coarse,
+            starts: &self.starts,
+            members: &self.members,
+            sub_centres: &self.sub_centres,
+            codes,
+        }
+    }
+
+    /// The same buffers under their names.
     fn named(self) -> Vec<Buffer> {
         vec![
             Buffer { name: "coarse centres", words: Words::F32(self.coarse) },
@@ -132,6 +167,7 @@ impl CelledBuffers {
     }
 }
 
+/// A celled index put to a voice.
 fn hear_celled(subject: &dyn Subject, case: &CelledCase) -> Option<Reply> {
     let (n, params) = (case.plain.n(), case.params());
     let mut lent = CelledBuffers::new(case);
@@ -150,14 +186,18 @@ fn hear_celled(subject: &dyn Subject, case: &CelledCase) -> Option<Reply> {
         work: &mut work,
     })?;
     let mut searches = Vec::new();
+    let mut check = None;
     if answer.is_ok() {
-        for query in &case.plain.queries {
-            searches.push(search_celled(subject, case, &lent, query)?);
-        }
+        let search = |query| search_celled(subject, case, &lent, query);
+        searches = case.plain.queries.iter().filter_map(search).collect();
+        let mut work = vec![JUNK_U32; n + 1024];
+        let index = lent.index(&lent.codes);
+        check = subject.check_celled(CelledCheck { params, n, index, work: &mut work });
     }
-    Some(Reply { answer, buffers: lent.named(), work, searches })
+    Some(Reply { answer, buffers: lent.named(), work, searches, check })
 }
 
+/// One search of a trained celled index.
 fn search_celled(
     subject: &dyn Subject,
     case: &CelledCase,
@@ -167,17 +207,18 @@ fn search_celled(
     let (n, params) = (case.plain.n(), case.params());
     let plain = params.plain;
     let (codes, mask) = under_mask(query, &built.codes, plain, n);
-    let index = CelledIndex {
-        coarse: &built.coarse,
-        starts: &built.starts,
-        members: &built.members,
-        sub_centres: &built.sub_centres,
-        codes: &codes,
-    };
+    let index = built.index(&codes);
     let (mask, point) = (&mask[..], &query.point[..]);
     Lent::new(query.k, plain.n_sub << plain.sub_bits).search(|table, rows, sums| {
         subject.search_celled(CelledSearch {
-            params, n, index, mask, query: point, table, rows, sums,
+            params,
+            n,
+            index,
+            mask,
+            query: point,
+            table,
+            rows,
+            sums,
         })
     })
 }
@@ -205,10 +246,12 @@ struct Lent {
 }
 
 impl Lent {
+    /// Buffers for k results.
     fn new(k: usize, table: usize) -> Lent {
         Lent { table: vec![JUNK_F32; table], rows: vec![JUNK_U32; k], sums: vec![JUNK_F32; k] }
     }
 
+    /// Runs one search over them, timed.
     fn search(
         mut self,
         run: impl FnOnce(&mut [f32], &mut [u32], &mut [f32]) -> Option<Searched>,

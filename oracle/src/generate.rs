@@ -277,7 +277,8 @@ fn celled(chance: &mut Chance) -> CelledCase {
     let many = epochs > 1 && cells > 4;
     let grain = if many { Grain::Near } else { chance.pick(&GRAINS) };
     let rows = rows(chance, grain, n, plain.d);
-    let steps = donor_steps(cells, epochs) + cells * plain.n_sub * donor_steps(1 << plain.sub_bits, epochs);
+    let steps =
+        donor_steps(cells, epochs) + cells * plain.n_sub * donor_steps(1 << plain.sub_bits, epochs);
     let draws = draws(chance, steps, n);
     let queries = queries(chance, grain, &rows, plain.d);
     let probes = chance.pick(&[1, cells.min(8), cells, cells.div_ceil(2)]);

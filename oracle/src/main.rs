@@ -40,6 +40,7 @@ commands:
 /// The recorded answers, as data of the program that replays them.
 const RECORDED: &str = "../crates/answers/data/recorded.bin";
 
+/// Runs the command; the exit code tells whether all is well.
 fn main() -> ExitCode {
     if cfg!(debug_assertions) {
         eprintln!("run with --release: document 01 fixes a 64-bit release build");

@@ -12,7 +12,7 @@ use hora::core::neighbor::take_born;
 use hora::core::node::Node;
 use hora::index::pq_idx::{reach, IVFPQIndex, PQIndex};
 use hora::index::pq_params::{IVFPQParams, PQParams};
-use seat::{CelledParams, PlainParams, Stage, Step, BLANK_ROW};
+use seat::{CelledParams, PlainParams, Ranges, Stage, Step, BLANK_ROW};
 
 use crate::case::*;
 use crate::quiet::{catch, Panic};
@@ -72,10 +72,12 @@ fn verdict(run: Result<Training, Panic>, step: impl FnOnce() -> Result<(), Verdi
     }
 }
 
+/// A named buffer of f32.
 fn buffer_f32(name: &'static str, words: Vec<f32>) -> Buffer {
     Buffer { name, words: Words::F32(words) }
 }
 
+/// A named buffer of u32.
 fn buffer_u32(name: &'static str, words: Vec<u32>) -> Buffer {
     Buffer { name, words: Words::U32(words) }
 }
@@ -88,6 +90,7 @@ struct Kmean {
 }
 
 impl Kmean {
+    /// A k-means over one range of the rows.
     fn new(
         rows: Vec<Vec<f32>>,
         range: [usize; 2],
@@ -190,6 +193,16 @@ pub fn celled_index(params: CelledParams, epochs: usize) -> IVFPQIndex<f32, usiz
         .search_n_center(params.probes)
         .train_epoch(epochs);
     IVFPQIndex::new(d, &params)
+}
+
+/// The Rust's ranges, as document 01's fixed list.
+pub fn ranges(d: usize, n_sub: usize) -> Ranges {
+    let index = plain_index(PlainParams { d, n_sub, sub_bits: 0 }, 0);
+    let mut list = [[0, 0]; 64];
+    for (place, range) in list.iter_mut().zip(reach::ranges(&index)) {
+        *place = [range[0], range[1]];
+    }
+    list
 }
 
 /// Adds the rows under their numbers, and trains.
@@ -342,11 +355,7 @@ fn all_finite(distances: &[f32]) -> Result<(), u32> {
 }
 
 /// A search of the plain index.
-fn search_plain(
-    index: &PQIndex<f32, usize>,
-    n: usize,
-    query: &Query,
-) -> Result<Results, u32> {
+fn search_plain(index: &PQIndex<f32, usize>, n: usize, query: &Query) -> Result<Results, u32> {
     if (0..n).any(|row| query.sees(row)) {
         all_finite(&reach::table(index, &Node::new(&query.point)))?;
     }
@@ -388,7 +397,8 @@ fn results(
     let born = take_born();
     assert_eq!(born.candidates, in_cells as u64, "the Rust probed other cells");
     let number = |node: &Node<f32, usize>| node.idx().expect("added under its number");
-    let mut found: Vec<(usize, f32)> = list.iter().map(|(node, sum)| (number(node), *sum)).collect();
+    let mut found: Vec<(usize, f32)> =
+        list.iter().map(|(node, sum)| (number(node), *sum)).collect();
     let mut scored = born.candidates;
     if query.mask.is_some() {
         found.retain(|&(row, _)| query.sees(row));
@@ -403,4 +413,29 @@ fn results(
     rows.resize(query.k, BLANK_ROW);
     sums.resize(query.k, 0.0);
     Ok(Results { rows, sums, found: found.len() as u64, scored })
+}
+
+#[cfg(test)]
+mod tests {
+    use super::*;
+
+    /// The example of document 01, step by step, through the Rust's own functions.
+    #[test]
+    fn the_split_of_document_01() {
+        let rows = vec![vec![1.0, 2.0], vec![3.0, 4.0]];
+        let mut kmean = Kmean::new(rows, [0, 2], None, 4, 2);
+        kmean.kmeans.init_center(2, &kmean.rows);
+        assert_eq!(kmean.kmeans.centers().concat(), [1.0, 2.0, 3.0, 2.0, 1.0, 2.0, 3.0, 2.0]);
+        let assigned = kmean.assigned();
+        assert_eq!(assigned, [0, 1]);
+        let mut counts = kmean.kmeans.update_center(2, &kmean.rows, &assigned);
+        assert_eq!(kmean.kmeans.centers().concat(), [1.0, 2.0, 3.0, 4.0, 0.0, 0.0, 0.0, 0.0]);
+        assert_eq!(counts, [1, 1, 0, 0]);
+        rand::lend_list(&[0.0, 0.25, 0.5, 0.4]);
+        kmean.kmeans.split_center(2, &mut counts).unwrap();
+        let split = [1.0009765625, 1.998046875, 3.0029296875, 3.99609375];
+        let filled = [0.9990234375, 2.001953125, 2.9970703125, 4.00390625];
+        assert_eq!(kmean.kmeans.centers().concat(), [split, filled].concat());
+        assert_eq!((counts, rand::used()), (vec![1, 1, 0, 0], 4));
+    }
 }

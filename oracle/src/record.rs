@@ -121,6 +121,7 @@ fn body(case: &Case, training: &Training) -> Vec<u8> {
     bytes
 }
 
+/// The inputs of a k-means.
 fn put_kmeans(bytes: &mut Vec<u8>, case: &KmeansCase) {
     let n = case.rows.len() / case.d;
     let residual = case.residual.as_deref().unwrap_or(&[]);
@@ -133,12 +134,14 @@ fn put_kmeans(bytes: &mut Vec<u8>, case: &KmeansCase) {
     put_f64(bytes, &case.draws);
 }
 
+/// The inputs of a plain index.
 fn put_plain(bytes: &mut Vec<u8>, case: &PlainCase) {
     let params = case.params;
     put_counts(bytes, &[params.d, params.n_sub, params.sub_bits]);
     put_rest(bytes, case);
 }
 
+/// The inputs of a celled index.
 fn put_celled(bytes: &mut Vec<u8>, case: &CelledCase) {
     let params = case.plain.params;
     put_counts(bytes, &[params.d, params.n_sub, params.sub_bits, case.cells, case.probes]);
@@ -153,6 +156,7 @@ fn put_rest(bytes: &mut Vec<u8>, case: &PlainCase) {
     put_f64(bytes, &case.draws);
 }
 
+/// A query and its answer.
 fn put_query(bytes: &mut Vec<u8>, query: &Query, results: &Results) {
     put_counts(bytes, &[query.k]);
     put_f32(bytes, &query.point);

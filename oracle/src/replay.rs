@@ -31,21 +31,31 @@ pub fn replay(subject: &dyn Subject, path: &Path) -> bool {
     let of = cases.len();
     let mut agree = 0;
     for (at, (case, training)) in cases.into_iter().enumerate() {
-        let verdict = Verdict::Trained(training);
-        match hear(subject, &case).map(|reply| difference(&verdict, &reply)) {
-            Some(None) => agree += 1,
-            Some(Some(words)) => println!("case {at} ({}): {words}", case.kind().name()),
-            None => println!("case {at} ({}): no entry point", case.kind().name()),
+        match disagreement(subject, &case, training) {
+            None => agree += 1,
+            Some(words) => println!("case {at} ({}): {words}", case.kind().name()),
         }
     }
     println!("replayed with the {}: {agree} of {of} agree", subject.name());
     agree == of
 }
 
+/// Why a voice does not agree with a recorded answer; none if it does.
+fn disagreement(subject: &dyn Subject, case: &Case, training: Training) -> Option<String> {
+    let searches = training.results.len();
+    match hear(subject, case) {
+        None => Some("no entry point".to_string()),
+        Some(reply) => difference(&Verdict::Trained(training), &reply).or_else(|| {
+            (reply.searches.len() < searches).then(|| "no entry point for search".to_string())
+        }),
+    }
+}
+
 /// The bytes not yet read.
 struct Reader<'a>(&'a [u8]);
 
 impl<'a> Reader<'a> {
+    /// The next bytes, if there are so many.
     fn bytes(&mut self, length: usize) -> Option<&'a [u8]> {
         if length > self.0.len() {
             return None;
@@ -55,19 +65,23 @@ impl<'a> Reader<'a> {
         Some(head)
     }
 
+    /// The next words.
     fn words(&mut self, count: usize) -> Option<Vec<u32>> {
         let bytes = self.bytes(count * 4)?;
         Some(bytes.chunks_exact(4).map(|b| u32::from_le_bytes(b.try_into().unwrap())).collect())
     }
 
+    /// The next word, as a count.
     fn count(&mut self) -> Option<usize> {
         Some(self.words(1)?[0] as usize)
     }
 
+    /// The next f32.
     fn f32s(&mut self, count: usize) -> Option<Vec<f32>> {
         Some(self.words(count)?.into_iter().map(f32::from_bits).collect())
     }
 
+    /// The next f64.
     fn f64s(&mut self, count: usize) -> Option<Vec<f64>> {
         let bytes = self.bytes(count * 8)?;
         Some(bytes.chunks_exact(8).map(|b| f64::from_le_bytes(b.try_into().unwrap())).collect())
@@ -95,6 +109,7 @@ fn read(bytes: &[u8]) -> Option<Vec<(Case, Training)>> {
     }
 }
 
+/// One case; its body must be read to its end.
 fn read_case(reader: &mut Reader) -> Option<(Case, Training)> {
     let kind = reader.count()?;
     let length = reader.count()?;
@@ -108,6 +123,7 @@ fn read_case(reader: &mut Reader) -> Option<(Case, Training)> {
     body.0.is_empty().then_some(pair)
 }
 
+/// A k-means and its answer.
 fn read_kmeans(body: &mut Reader) -> Option<(Case, Training)> {
     let (d, n) = (body.count()?, body.count()?);
     let (begin, end) = (body.count()?, body.count()?);
@@ -137,10 +153,12 @@ fn read_inputs(body: &mut Reader, params: PlainParams) -> Option<(PlainCase, usi
     Some((PlainCase { params, epochs, rows, draws, queries: Vec::new() }, queries, covered))
 }
 
+/// The parameters that every index has.
 fn read_params(body: &mut Reader) -> Option<PlainParams> {
     Some(PlainParams { d: body.count()?, n_sub: body.count()?, sub_bits: body.count()? })
 }
 
+/// A plain index and its answer.
 fn read_plain(body: &mut Reader) -> Option<(Case, Training)> {
     let params = read_params(body)?;
     let (mut case, queries, covered) = read_inputs(body, params)?;
@@ -155,6 +173,7 @@ fn read_plain(body: &mut Reader) -> Option<(Case, Training)> {
     Some((Case::Plain(case), Training { draws_used, buffers, results }))
 }
 
+/// A celled index and its answer.
 fn read_celled(body: &mut Reader) -> Option<(Case, Training)> {
     let params = read_params(body)?;
     let (cells, probes) = (body.count()?, body.count()?);

@@ -47,8 +47,12 @@ fn changes(case: &Case) -> Vec<Change<'_, Case>> {
 }
 
 /// Steps on a part, as steps on the whole.
-fn raised<'a, W: 'a, P: 'a>(list: Vec<Change<'a, P>>, part: fn(&mut W) -> &mut P) -> Vec<Change<'a, W>> {
-    let raise = |change: Change<'a, P>| -> Change<'a, W> { Box::new(move |whole| change(part(whole))) };
+fn raised<'a, W: 'a, P: 'a>(
+    list: Vec<Change<'a, P>>,
+    part: fn(&mut W) -> &mut P,
+) -> Vec<Change<'a, W>> {
+    let raise =
+        |change: Change<'a, P>| -> Change<'a, W> { Box::new(move |whole| change(part(whole))) };
     list.into_iter().map(raise).collect()
 }
 
@@ -111,6 +115,7 @@ fn narrowed(rows: &[f32], d: usize, cut: &Range<usize>) -> Vec<f32> {
     kept.map(|(_, &x)| x).collect()
 }
 
+/// Steps on a k-means.
 fn kmeans(case: &KmeansCase) -> Vec<Change<'_, KmeansCase>> {
     let mut list: Vec<Change<KmeansCase>> = Vec::new();
     for cut in cuts(case.members.len()) {
@@ -166,6 +171,7 @@ fn without_coordinates(case: &mut KmeansCase, cut: &Range<usize>) {
     case.end -= cut.len();
 }
 
+/// Steps on a plain index.
 fn plain(case: &PlainCase) -> Vec<Change<'_, PlainCase>> {
     let mut list: Vec<Change<PlainCase>> = Vec::new();
     for cut in cuts(case.n()) {
@@ -223,6 +229,7 @@ fn queries<'a>(list: &mut Vec<Change<'a, PlainCase>>, queries: &'a [Query]) {
     }
 }
 
+/// Steps on cells and probes, and those on a plain index.
 fn celled(case: &CelledCase) -> Vec<Change<'_, CelledCase>> {
     let mut list: Vec<Change<CelledCase>> = Vec::new();
     lower(&mut list, case.cells, 1, |c, x| (c.cells, c.probes) = (x, c.probes.min(x)));

@@ -75,7 +75,8 @@ fn print(all: &[(&Slip, &dyn Subject)], seen: &[Option<Seen>], run: usize) -> bo
 /// Prints the smallest case at which one slip is seen.
 pub fn show_smallest(number: usize, cases: usize, seed: u64) -> bool {
     let (slip, voice) = slips().nth(number).expect("there are fewer slips");
-    let differing = |case: &Case| catch(|| differs(voice, case)).map_or(true, |found| found.is_some());
+    let differing =
+        |case: &Case| catch(|| differs(voice, case)).map_or(true, |found| found.is_some());
     for run in 0..cases {
         let (case, _, _) = fitted(Kind::ALL[run % 3], seed_of(seed, run));
         if differing(&case) {

@@ -3,6 +3,7 @@
 use seat::PlainParams;
 
 use crate::case::*;
+use crate::drive::Reply;
 use crate::original::Verdict;
 
 /// Counts by kind of case, and of the corners reached.
@@ -21,11 +22,14 @@ struct OfKind {
     searches: usize,
     refused_11: usize,
     hiding: usize,
+    checks: usize,
     outside: usize,
     left_out: usize,
+    searches_left_out: usize,
 }
 
 impl OfKind {
+    /// Adds the counts of another.
     fn add(&mut self, other: &OfKind) {
         self.trained += other.trained;
         self.refused_8 += other.refused_8;
@@ -33,27 +37,31 @@ impl OfKind {
         self.searches += other.searches;
         self.refused_11 += other.refused_11;
         self.hiding += other.hiding;
+        self.checks += other.checks;
         self.outside += other.outside;
         self.left_out += other.left_out;
+        self.searches_left_out += other.searches_left_out;
     }
 }
 
 impl Tally {
-    /// Counts one case; `heard` tells whether the voice has the entry point.
-    pub fn count(&mut self, case: &Case, verdict: &Verdict, outside: usize, heard: bool) {
+    /// Counts one case; no reply means that the voice has no such entry point.
+    pub fn count(&mut self, case: &Case, verdict: &Verdict, outside: usize, reply: Option<&Reply>) {
         let of_kind = &mut self.kinds[case.kind() as usize];
         of_kind.outside += outside;
-        if !heard {
+        let Some(reply) = reply else {
             of_kind.left_out += 1;
             return;
-        }
+        };
+        of_kind.checks += reply.check.is_some() as usize;
         match verdict {
             Verdict::Refused(refused) if refused.number == 8 => of_kind.refused_8 += 1,
             Verdict::Refused(_) => of_kind.refused_9 += 1,
             Verdict::Outside => of_kind.outside += 1,
             Verdict::Trained(training) => {
                 of_kind.trained += 1;
-                of_kind.searches += training.results.len();
+                of_kind.searches += reply.searches.len();
+                of_kind.searches_left_out += training.results.len() - reply.searches.len();
                 of_kind.refused_11 += training.results.iter().filter(|r| r.is_err()).count();
                 let queries = match case {
                     Case::Kmeans(_) => &[],
@@ -89,26 +97,40 @@ impl Tally {
         self.kinds.iter().map(|k| k.trained + k.refused_8 + k.refused_9).sum()
     }
 
-    /// Prints the counts, a line for each kind that came up, and a line of corners.
+    /// Prints the counts, lines for each kind that came up, and a line of corners.
     pub fn print(&self) {
         println!("compared {}", self.compared());
         for kind in Kind::ALL {
-            let k = self.kinds[kind as usize];
-            if k.left_out > 0 {
-                println!("  {}: {} left out, no entry point", kind.name(), k.left_out);
-            }
-            if k.trained + k.refused_8 + k.refused_9 == 0 {
-                continue;
-            }
-            println!(
-                "  {}: trained {}, refused 8 {}, refused 9 {}; searches {}, of them refused 11 {}, hiding rows {}; drafts outside the domain {}",
-                kind.name(), k.trained, k.refused_8, k.refused_9, k.searches, k.refused_11, k.hiding, k.outside
-            );
+            self.kinds[kind as usize].print(kind.name());
         }
         let mut corners = self.corners.clone();
         corners.sort();
-        let list: Vec<String> = corners.iter().map(|(name, count)| format!("{name}: {count}")).collect();
-        println!("  corners: {}", list.join(", "));
+        let word = |(name, count): &(&str, usize)| format!("{name}: {count}");
+        println!("  corners: {}", corners.iter().map(word).collect::<Vec<String>>().join(", "));
+    }
+}
+
+impl OfKind {
+    /// Prints the counts of one kind, and what the voice has no entry point for.
+    fn print(&self, name: &str) {
+        if self.left_out > 0 {
+            println!("  {name}: {} left out, no entry point", self.left_out);
+        }
+        if self.searches_left_out > 0 {
+            println!("  {name}: {} searches left out, no entry point", self.searches_left_out);
+        }
+        if self.trained + self.refused_8 + self.refused_9 > 0 {
+            println!(
+                "  {name}: trained {}, refused 8 {}, refused 9 {}; drafts outside the domain {}",
+                self.trained, self.refused_8, self.refused_9, self.outside
+            );
+        }
+        if self.searches > 0 {
+            println!(
+                "  {name}: searches {}, of them refused 11 {}, hiding rows {}; whole checks {}",
+                self.searches, self.refused_11, self.hiding, self.checks
+            );
+        }
     }
 }
 
@@ -127,6 +149,7 @@ fn corners(case: &Case) -> Vec<&'static str> {
             at(case.end - case.begin > 64, "range past 64");
             at(case.residual.is_some(), "residual");
             at(case.n_center >= 256, "256 centres or more");
+            at(case.n_center >= 256 && case.epochs > 1, "256 centres or more, split");
         }
         Case::Plain(case) => index_corners(case.params, case.epochs, &mut at),
         Case::Celled(case) => {
@@ -149,5 +172,6 @@ fn index_corners(params: PlainParams, epochs: usize, at: &mut impl FnMut(bool, &
     at(params.n_sub == 64, "n_sub 64");
     at(params.sub_bits == 0, "sub_bits 0");
     at(params.sub_bits == 8, "sub_bits 8");
+    at(params.sub_bits == 8 && epochs > 1, "sub_bits 8, split");
     at(page::covered(params.d, params.n_sub) < params.d, "C below D");
 }

@@ -48,7 +48,9 @@ fn source() -> PathBuf {
     let source = root.join("src");
     match source.canonicalize() {
         Ok(found) => found,
-        Err(_) => panic!("no Rust at {}: set HORA_SRC to the folder that holds its src", root.display()),
+        Err(_) => {
+            panic!("no Rust at {}: set HORA_SRC to the folder that holds its src", root.display())
+        }
     }
 }
 

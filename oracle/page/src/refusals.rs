@@ -18,10 +18,7 @@ fn refuse_unless(number: u32, holds: bool) -> Result<(), u32> {
 
 /// Test 1 for a plain index.
 pub fn plain_bounds(d: usize, n_sub: usize, sub_bits: usize) -> Result<(), u32> {
-    let holds = (1..=256).contains(&d)
-        && (1..=64).contains(&n_sub)
-        && n_sub <= d
-        && sub_bits <= 8;
+    let holds = (1..=256).contains(&d) && (1..=64).contains(&n_sub) && n_sub <= d && sub_bits <= 8;
     refuse_unless(1, holds)
 }
 

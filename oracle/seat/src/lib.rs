@@ -173,9 +173,14 @@ pub trait Subject: Sync {
     /// One k-means; its refusals are 8 and 9, named as of the coarse stage.
     fn kmeans(&self, task: Kmeans) -> Option<Trained>;
 
+    /// Training of a plain index.
     fn train_plain(&self, task: PlainTraining) -> Option<Trained>;
+    /// Search of a plain index.
     fn search_plain(&self, task: PlainSearch) -> Option<Searched>;
+    /// Training of a celled index.
     fn train_celled(&self, task: CelledTraining) -> Option<Trained>;
+    /// Search of a celled index.
     fn search_celled(&self, task: CelledSearch) -> Option<Searched>;
+    /// The whole check of a celled index.
     fn check_celled(&self, task: CelledCheck) -> Option<Checked>;
 }

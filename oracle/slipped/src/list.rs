@@ -54,7 +54,11 @@ pub const SLIPS: &[Slip] = &[
             let Some(draw) = draws.next() else {\n",
         )],
     ),
-    slip("a split in the last epoch", "kmeans.rs", &[("if epoch < epochs {", "if epoch <= epochs {")]),
+    slip(
+        "a split in the last epoch",
+        "kmeans.rs",
+        &[("if epoch < epochs {", "if epoch <= epochs {")],
+    ),
     slip("<= in assignment", "kmeans.rs", &[("if rival < least {", "if rival <= least {")]),
     slip(
         "a row's place in its cell returned as its row number",
@@ -122,8 +126,16 @@ pub const SLIPS: &[Slip] = &[
         edits: &[("            if count != 0 {\n", "            if count > 1 {\n")],
         same_because: Some("x / 1 is x, bit for bit, for every x"),
     },
-    slip("ties by the higher row", "search.rs", &[("then(a.row.cmp(&b.row))", "then(b.row.cmp(&a.row))")]),
-    slip("cells at equal distance by the higher cell", "celled.rs", &[("then(a.1.cmp(&b.1))", "then(b.1.cmp(&a.1))")]),
+    slip(
+        "ties by the higher row",
+        "search.rs",
+        &[("then(a.row.cmp(&b.row))", "then(b.row.cmp(&a.row))")],
+    ),
+    slip(
+        "cells at equal distance by the higher cell",
+        "celled.rs",
+        &[("then(a.1.cmp(&b.1))", "then(b.1.cmp(&a.1))")],
+    ),
     slip(
         "the residual left out in search",
         "celled.rs",
@@ -132,9 +144,16 @@ pub const SLIPS: &[Slip] = &[
     slip(
         "the residual left out in training",
         "celled.rs",
-        &[("let residual = Some(&task.coarse[number * plain.d..(number + 1) * plain.d]);", "let residual = None;")],
+        &[(
+            "let residual = Some(&task.coarse[number * plain.d..(number + 1) * plain.d]);",
+            "let residual = None;",
+        )],
     ),
-    slip("the remainder of the ranges taken by n_sub", "ranges.rs", &[("let e = d % s;", "let e = d % n_sub;")]),
+    slip(
+        "the remainder of the ranges taken by n_sub",
+        "ranges.rs",
+        &[("let e = d % s;", "let e = d % n_sub;")],
+    ),
     slip(
         "the shift at start not wrapped at 64",
         "kmeans.rs",
@@ -166,7 +185,10 @@ pub const SLIPS: &[Slip] = &[
     slip(
         "draws begun anew for every sub-space",
         "plain.rs",
-        &[("            let assigned = kmeans::train(", "            draws.used = 0;\n            let assigned = kmeans::train(")],
+        &[(
+            "            let assigned = kmeans::train(",
+            "            draws.used = 0;\n            let assigned = kmeans::train(",
+        )],
     ),
     slip(
         "codes by place in the cell instead of by row number",
@@ -181,16 +203,26 @@ pub const SLIPS: &[Slip] = &[
         "kmeans.rs",
         &[
             ("    run.start()?;\n", "    run.start()?;\n    let mut last = run.assign();\n"),
-            ("        let assigned = run.assign();\n", "        let assigned = run.assign();\n        last = assigned.clone();\n"),
+            (
+                "        let assigned = run.assign();\n",
+                "        let assigned = run.assign();\n        last = assigned.clone();\n",
+            ),
             ("    Ok(run.assign())\n", "    Ok(last)\n"),
         ],
     ),
     slip(
         "the distance summed in f64",
         "kmeans.rs",
-        &[("        sum += d * d;\n    }\n    sum\n", "        sum += d as f64 * d as f64;\n    }\n    sum as f32\n")],
+        &[(
+            "        sum += d * d;\n    }\n    sum\n",
+            "        sum += d as f64 * d as f64;\n    }\n    sum as f32\n",
+        )],
     ),
-    slip("the distance with its root", "kmeans.rs", &[("    }\n    sum\n}", "    }\n    f32::sqrt(sum)\n}")]),
+    slip(
+        "the distance with its root",
+        "kmeans.rs",
+        &[("    }\n    sum\n}", "    }\n    f32::sqrt(sum)\n}")],
+    ),
     slip(
         "product and sum of the distance rounded once",
         "kmeans.rs",
@@ -209,9 +241,16 @@ pub const SLIPS: &[Slip] = &[
     slip(
         "coarse distances over the covered coordinates only",
         "celled.rs",
-        &[("distance(query, centre)", "distance(&query[..covered(params.plain.d, params.plain.n_sub)], centre)")],
+        &[(
+            "distance(query, centre)",
+            "distance(&query[..covered(params.plain.d, params.plain.n_sub)], centre)",
+        )],
     ),
-    slip("one cell probed too few", "celled.rs", &[("take(params.probes)", "take(params.probes.max(2) - 1)")]),
+    slip(
+        "one cell probed too few",
+        "celled.rs",
+        &[("take(params.probes)", "take(params.probes.max(2) - 1)")],
+    ),
     slip(
         "an empty cell's sub-centres not written",
         "celled.rs",
@@ -227,7 +266,10 @@ pub const SLIPS: &[Slip] = &[
     slip(
         "a table entry that no row uses not tested",
         "search.rs",
-        &[("= finite(distance(&target[begin..end], centre))?;", "= distance(&target[begin..end], centre);")],
+        &[(
+            "= finite(distance(&target[begin..end], centre))?;",
+            "= distance(&target[begin..end], centre);",
+        )],
     ),
     slip(
         "an infinite distance refused in training",

@@ -26,7 +26,7 @@ pub fn lend(source: Source) {
 
 /// Lends this thread a list of draws; counting begins anew.
 pub fn lend_list(draws: &[f64]) {
-    let mut left = draws.to_vec().into_iter();
+    let mut left = Vec::from(draws).into_iter();
     lend(Box::new(move || left.next()));
 }
 
