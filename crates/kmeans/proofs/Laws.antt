@@ -1,10 +1,14 @@
 -- Laws on the definitions of k-means.
 use Prim.Native.Nat.{ℕ, zero, suc, _+_, _*_, _-_, _%_, _≤_, _<_}
 use native.Mathlib.Nat.{mod-add-mod}
-use mathlib.Core.Path.{_≡_, refl, sym, _∙_, ap, ap₂}
+use mathlib.Core.Path.{_≡_, refl, sym, _∙_, ap, ap₂, subst}
 use mathlib.Core.Bool.{Bool, true, false, cond, _&&_}
-use mathlib.Core.List.{List, _++_}
-use native.Mathlib.Decide.{decLt}
+use mathlib.Core.List.{List, [], _∷_, _++_}
+use mathlib.Core.Logic.{inl, inr}
+use types.Run.{OneOf}
+use denote.Enum.Declared.{tagOf}
+use Rattle.kmeans.proofs.Clustered.{the-type}
+use native.Mathlib.Decide.{decLt, decLe}
 use native.Mathlib.Omega.{arith}
 use native.Mathlib.Numerals.{add-one}
 use lib.ListN.{length, getD, set, drop}
@@ -26,7 +30,7 @@ use Rattle.kmeans.specs.declared.Clustered.the-variants.{Done, OutOfDraw
 use Rattle.kmeans.specs.declared.Clustered.the-variants.{NotFinite as CenterNotFinite}
 use Rattle.kmeans.specs.declared.Frame.{Frame}
 use Rattle.kmeans.specs.Frame.{memberOf, valueAt, taskOf, Framed}
-use Rattle.kmeans.specs.Kmeans.{Task, lessOf, nearest, distanceTo, chosen, coordinate, started, startAt, meanAt, meanOf, isOf, countAt, sumWhere, averageAt, averagesOf, countsOf, finiteCenter, finiteCoordinate, gotAt, leftAt, splitCenters, splitCounts, splitOff, walkAt, Run, stepsOf, drawsLeft, fillCenter, answered}
+use Rattle.kmeans.specs.Kmeans.{Task, lessOf, nearest, distanceTo, chosen, coordinate, started, startAt, meanAt, meanOf, isOf, countAt, sumWhere, averageAt, averagesOf, countsOf, finiteCenter, finiteCoordinate, gotAt, leftAt, splitCenters, splitCounts, splitOff, walkAt, Run, stepsOf, drawsLeft, fillCenter, answered, onward, fillIfEmpty, splitTo}
 use Rattle.kmeans.specs.Inner.{addedAt, addedTo, columnSum, centerSum, meanIn, meansOf, meansAt, startFrom, finiteIn, leftIn, runOf}
 
 -- ---- assign
@@ -236,3 +240,44 @@ pub fill-out : (t : Task) (epoch i used s : ℕ) (r : Run) → s ≡ stepsOf t (
     → answered (OutOfDraws epoch i) r ≡ fillCenter t epoch i used r
 unfolding fillCenter
 fill-out t epoch i used s r e h = rw (← e, le-ltb s (drawsLeft t used) h)
+
+-- ---- refusals are passed on
+
+-- an answer that is no refusal names the draws used
+abbrev pub NotDone : Clustered → Type 0
+NotDone (Done used) = ⊥
+NotDone (OutOfDraws epoch center) = Unit {0}
+NotDone (CenterNotFinite step epoch center) = Unit {0}
+
+stays : (c : Clustered) (r : Run) (next : ℕ → Run) → NotDone c → onward c r next ≡ r
+stays (Done used) r next h = absurd h
+stays (OutOfDraws epoch center) r next h = refl
+stays (CenterNotFinite step epoch center) r next h = refl
+
+-- from a refusal on, splitting changes nothing
+pub split-stays : (t : Task) (epoch : ℕ) (r : Run) (i n : ℕ) → i ≤ n → NotDone (splitTo t epoch r i .answer) → splitTo t epoch r n ≡ splitTo t epoch r i
+unfolding splitTo
+split-stays t epoch r i zero h d = let e : i ≡ 0 = omega arith in rw e
+split-stays t epoch r i (suc n) h d = elim (decLe i n) [
+  | yes k ↦ rw (split-stays t epoch r i n k d) (stays (splitTo t epoch r i .answer) (splitTo t epoch r i) _ d)
+  | no k ↦ let e : i ≡ suc n = omega arith in rw e
+]
+
+-- one more centre, after i of them without a refusal
+pub split-step : (t : Task) (epoch at i : ℕ) (r q p : Run) → q ≡ splitTo t epoch r i → q .answer ≡ Done at → p ≡ fillIfEmpty t epoch i q at → p ≡ splitTo t epoch r (i + 1)
+unfolding splitTo
+split-step t epoch at i r q p e d f = f ∙ rw (add-one, ← e, d)
+
+-- what a `match` tells of an answer that is not `Done`
+pub told-not-done : (c : Clustered) → OneOf (1 ∷ 2 ∷ []) (tagOf the-type c) → NotDone c
+told-not-done (Done used) (inl h) = absurd (omega arith)
+told-not-done (Done used) (inr h) = absurd (omega arith)
+told-not-done (OutOfDraws epoch center) h = tt
+told-not-done (CenterNotFinite step epoch center) h = tt
+
+-- a refusal at centre i is the split's
+pub split-refused : (t : Task) (epoch at i n : ℕ) (r q p : Run) → q ≡ splitTo t epoch r i → q .answer ≡ Done at → p ≡ fillIfEmpty t epoch i q at → NotDone (p .answer) → i < n
+    → p ≡ splitTo t epoch r n
+split-refused t epoch at i n r q p e d f g h =
+    let k = split-step t epoch at i r q p e d f in
+    k ∙ sym (split-stays t epoch r (i + 1) n (omega arith) (subst (λ (z : Run). NotDone (z .answer)) k g))

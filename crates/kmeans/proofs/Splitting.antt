@@ -235,3 +235,11 @@ donor-rule t counts used i d h z l =
     let s = stepsOf t counts used i in
     let rows = taken-rows t counts used i s d l (first-hit (takenAt t counts used i) (drawsLeft t used) l) in
     record { below = walk-below t i s h; other = λ p. rows (rw p z); rows = rows }
+
+-- and after each centre of a split
+pub split-drawn : (t : Task) (before epoch at i : ℕ) (r q : Run) → q ≡ splitTo t epoch r i → q .answer ≡ Done at → r .answer ≡ Done before → i ≤ t .centers
+    → before ≤ length (t .draws) → at ≤ length (t .draws)
+split-drawn t before epoch at i r q e f g h d =
+    let P : Run → Type 0 = λ p. Drawn before (length (t .draws)) (p .answer) in
+    let w = split-keeps t epoch P (λ i u q l f z p. fill-drawn t before epoch i u q (rw f at p)) r (rw g (omega arith)) i h in
+    (rw (← e, f) at w) .1

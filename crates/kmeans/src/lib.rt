@@ -8,11 +8,12 @@ ghost use Prim.Native.Nat.{ℕ, _+_, _*_, _/_, _%_, _≤_, _<_};
 ghost use mathlib.Core.List.{List, []};
 ghost use lib.ListN.{length, getD, set};
 ghost use lib.Dec.{eqb};
+ghost use Rattle.kmeans.specs.Splits.{NotNegative};
 ghost use lib.IntN.{pos};
 ghost use lib.Ieee.{add, sub, mul, div, ofInt, binary32, binary64};
 ghost use Rattle.lists.specs.Lists.{Part, tab, fill, part, putPart, grid};
 ghost use Rattle.metrics.specs.Distance.{valueIn, zero32};
-ghost use Rattle.kmeans.specs.Kmeans.{lessOf, distanceTo, chosen, assignedOf, started, averagesOf, countsOf, countAt, meanOf, raised, one32, finiteCenter, lowestBroken, gotAt, leftAt, down32, up32, coordinate, splitCenters, splitCounts, stepsOf, walkAt, splitOff, fillCenter, fillIfEmpty, splitTo};
+ghost use Rattle.kmeans.specs.Kmeans.{lessOf, distanceTo, chosen, assignedOf, started, averagesOf, countsOf, countAt, meanOf, raised, one32, finiteCenter, lowestBroken, gotAt, leftAt, down32, up32, coordinate, splitCenters, splitCounts, stepsOf, walkAt, splitOff, fillCenter, fillIfEmpty, splitTo, epochOf, epochsTo, train};
 ghost use Rattle.kmeans.specs.Frame.{memberOf, taskOf, Framed, Assigned};
 ghost use Rattle.kmeans.specs.Inner.{addedAt, addedTo, columnSum, centerSum, meanIn, meansOf, meansAt, startFrom, finiteIn, leftIn, runOf, splitTask, Splittable};
 use metrics::Worked;
@@ -525,4 +526,27 @@ fn fill_if_empty(
     } else {
         Clustered::Done(used)
     }
+}
+
+// Step 5: each empty centre, rising, is filled; the draws used so far are carried on.
+pub fn split_center(
+    f: Frame,
+    draws: &[f64],
+    used: usize,
+    epoch: u32,
+    centers: &mut [f32],
+    counts: &mut [u32],
+) -> Clustered
+    requires { ⌜ Splittable f (now draws) used (now centers) (now counts) ⌝ }
+    ensures { λ r. ⌜ ((to : List ℕ) → runOf r (now (centers .exit)) to (now (counts .exit)) ≡ splitTo (splitTask f (now (draws .entry))) epoch (runOf (Clustered.Done used) (now (centers .entry)) to (now (counts .entry))) (f .centers)) ⌝ }
+{
+    let mut at = used;
+    for i in 0..f.centers {
+        let c = fill_if_empty(f, draws, at, epoch, i, centers, counts);
+        let Clustered::Done(next) = c else {
+            return c;
+        };
+        at = next;
+    }
+    Clustered::Done(at)
 }
