@@ -1,6 +1,6 @@
 -- Laws on the definitions of k-means.
 use Prim.Native.Nat.{ℕ, zero, suc, _+_, _*_, _-_, _%_, _≤_, _<_}
-use native.Mathlib.Nat.{mod-add-mod}
+use native.Mathlib.Nat.{mod-add-mod, lt-of-lt-of-le}
 use mathlib.Core.Path.{_≡_, refl, sym, _∙_, ap, ap₂, subst}
 use mathlib.Core.Bool.{Bool, true, false, cond, _&&_}
 use mathlib.Core.List.{List, [], _∷_, _++_}
@@ -15,7 +15,8 @@ use lib.ListN.{length, getD, set, drop}
 use lib.Ieee.{Float, nan, binary32, add}
 use lib.Ieee.Scale.{finite}
 use borrow.Author.Tests.{eq-eqb, ne-eqb, lt-ltb, le-ltb}
-use Rattle.lists.specs.Lists.{Part, part, putPart, tab, grid}
+use lib.Dec.{ltb}
+use Rattle.lists.specs.Lists.{Part, part, putPart, tab, fill, grid}
 use Rattle.lists.specs.Tests.{every, count}
 use Rattle.lists.proofs.Tests.{every-ext, count-yes, count-no}
 use Rattle.lists.proofs.Tables.{length-tab, tab-ext, getD-tab, tab-set}
@@ -29,9 +30,9 @@ use Rattle.kmeans.specs.declared.Clustered.{Clustered}
 use Rattle.kmeans.specs.declared.Clustered.the-variants.{Done, OutOfDraws}
 use Rattle.kmeans.specs.declared.Clustered.the-variants.{NotFinite as CenterNotFinite}
 use Rattle.kmeans.specs.declared.Frame.{Frame}
-use Rattle.kmeans.specs.Frame.{memberOf, valueAt, taskOf, Framed}
-use Rattle.kmeans.specs.Kmeans.{Task, lessOf, nearest, distanceTo, chosen, coordinate, started, startAt, meanAt, meanOf, isOf, countAt, sumWhere, averageAt, averagesOf, countsOf, finiteCenter, finiteCoordinate, gotAt, leftAt, splitCenters, splitCounts, splitOff, walkAt, Run, stepsOf, drawsLeft, fillCenter, answered, onward, fillIfEmpty, splitTo}
-use Rattle.kmeans.specs.Inner.{addedAt, addedTo, columnSum, centerSum, meanIn, meansOf, meansAt, startFrom, finiteIn, leftIn, runOf}
+use Rattle.kmeans.specs.Frame.{memberOf, valueAt, taskOf, Framed, Assigned}
+use Rattle.kmeans.specs.Kmeans.{Task, lessOf, nearest, distanceTo, chosen, coordinate, started, startAt, meanAt, meanOf, isOf, countAt, sumWhere, averageAt, averagesOf, countsOf, finiteCenter, finiteCoordinate, gotAt, leftAt, splitCenters, splitCounts, splitOff, walkAt, Run, stepsOf, drawsLeft, fillCenter, answered, onward, fillIfEmpty, splitTo, assignedOf, chosenAt, lowestBroken, averaged, epochOf, epochsTo, beginning, train}
+use Rattle.kmeans.specs.Inner.{addedAt, addedTo, columnSum, centerSum, meanIn, meansOf, meansAt, startFrom, finiteIn, leftIn, runOf, splitTask}
 
 -- ---- assign
 
@@ -281,3 +282,112 @@ pub split-refused : (t : Task) (epoch at i n : ℕ) (r q p : Run) → q ≡ spli
 split-refused t epoch at i n r q p e d f g h =
     let k = split-step t epoch at i r q p e d f in
     k ∙ sym (split-stays t epoch r (i + 1) n (omega arith) (subst (λ (z : Run). NotDone (z .answer)) k g))
+
+-- ---- train
+
+-- what averaging leaves
+pub averaged-run : (t : Task) (epoch used broken : ℕ) (q : Run) (cs : List Float) (to counts : List ℕ) → to ≡ assignedOf t (q .centers) → cs ≡ averagesOf t to → counts ≡ countsOf t to
+    → broken ≡ lowestBroken cs (t .w) (t .centers)
+    → runOf (cond (ltb broken (t .centers)) (CenterNotFinite Averaging epoch broken) (Done used)) cs to counts ≡ averaged t epoch q used
+unfolding averaged
+averaged-run t epoch used broken q cs to counts e f g h = rw (h, g, f, e)
+
+split-none : (t : Task) (epoch : ℕ) (r : Run) → splitTo t epoch r 0 ≡ r
+unfolding splitTo
+split-none t epoch r = refl
+
+-- an epoch whose averaging refuses, the last epoch, and one that splits
+pub epoch-refused : (t : Task) (epoch used : ℕ) (r q : Run) → q ≡ averaged t epoch r used → NotDone (q .answer) → q ≡ epochOf t epoch r used
+unfolding epochOf
+epoch-refused t epoch used r q e d = go (ltb epoch (t .epochs))
+  where
+    go : (b : Bool) → q ≡ cond b (splitTo t epoch (averaged t epoch r used) (t .centers)) (averaged t epoch r used)
+    go true = e ∙ sym (rw (← e) (split-stays t epoch q 0 (t .centers) (omega arith) (rw (split-none t epoch q) d) ∙ split-none t epoch q))
+    go false = e
+
+pub epoch-last : (t : Task) (epoch used : ℕ) (r q : Run) → q ≡ averaged t epoch r used → t .epochs ≤ epoch → q ≡ epochOf t epoch r used
+unfolding epochOf
+epoch-last t epoch used r q e h = rw (le-ltb epoch (t .epochs) h) e
+
+pub epoch-split : (t : Task) (epoch used : ℕ) (r q p : Run) → q ≡ averaged t epoch r used → epoch < t .epochs → p ≡ splitTo t epoch q (t .centers) → p ≡ epochOf t epoch r used
+unfolding epochOf
+epoch-split t epoch used r q p e h f = rw (lt-ltb epoch (t .epochs) h, ← e) f
+
+-- splitting does not look at the rows, averaging not at the draws
+pub split-same : (f : Frame) (rows : List Float) (members : List ℕ) (residual draws : List Float) (epochs epoch : ℕ) (r : Run) (i : ℕ)
+    → splitTo (splitTask f draws) epoch r i ≡ splitTo (taskOf f rows members residual epochs draws) epoch r i
+unfolding splitTo fillCenter splitOff
+split-same f rows members residual draws epochs epoch r zero = refl
+split-same f rows members residual draws epochs epoch r (suc i) = rw (split-same f rows members residual draws epochs epoch r i)
+
+average-same : (f : Frame) (rows : List Float) (members : List ℕ) (residual draws : List Float) (epochs : ℕ) (to : List ℕ) (i j : ℕ)
+    → averageAt (taskOf f rows members residual 0 []) to i j ≡ averageAt (taskOf f rows members residual epochs draws) to i j
+unfolding averageAt
+average-same f rows members residual draws epochs to i j = refl
+
+pub averaged-same : (f : Frame) (rows : List Float) (members : List ℕ) (residual draws : List Float) (epochs epoch used : ℕ) (r : Run)
+    → averaged (taskOf f rows members residual 0 []) epoch r used ≡ averaged (taskOf f rows members residual epochs draws) epoch r used
+unfolding averaged
+averaged-same f rows members residual draws epochs epoch used r =
+    let t = taskOf f rows members residual 0 [] in
+    let u = taskOf f rows members residual epochs draws in
+    let to = assignedOf t (r .centers) in
+    let e : averagesOf t to ≡ averagesOf u to = grid-ext (averageAt t to) (averageAt u to) (f .centers) (f .w) (λ i h j l. average-same f rows members residual draws epochs to i j) in
+    rw e
+
+-- averaging uses no draws
+pub averaged-done : (t : Task) (epoch used at : ℕ) (r q : Run) → q ≡ averaged t epoch r used → q .answer ≡ Done at → at ≡ used
+unfolding averaged
+averaged-done t epoch used at r q e d = go (ltb (lowestBroken (averagesOf t (assignedOf t (r .centers))) (t .w) (t .centers)) (t .centers)) (sym (ap (λ (z : Run). z .answer) e) ∙ d)
+  where
+    go : (b : Bool) → cond b (CenterNotFinite Averaging epoch (lowestBroken (averagesOf t (assignedOf t (r .centers))) (t .w) (t .centers))) (Done used) ≡ Done at → at ≡ used
+    go true h = let z : _≡_ {A = ℕ} 0 1 = cc in absurd (omega arith)
+    go false h = cc
+
+-- each row is assigned to one of the centres
+pub assigned-of : (f : Frame) (t : Task) (cs : List Float) (to : List ℕ) → t .n ≡ f .n → t .centers ≡ f .centers → 0 < f .centers → to ≡ assignedOf t cs → Assigned f to
+assigned-of f t cs to p q h e = record {
+  long = ap length e ∙ length-tab (chosenAt t cs) (t .n) ∙ p;
+  below = λ k l. rw (e, getD-tab (chosenAt t cs) (t .n) k 0 (omega arith)) (lt-of-lt-of-le (nearest-lt _ (t .centers) (omega arith)) (omega arith));
+}
+
+-- the same of the epochs: one more, and a refusal, from which on nothing changes
+pub epochs-step : (t : Task) (used at e : ℕ) (q p : Run) → q ≡ epochsTo t used e → q .answer ≡ Done at → p ≡ epochOf t (e + 1) q at → p ≡ epochsTo t used (e + 1)
+unfolding epochsTo
+epochs-step t used at e q p g d f = (rw add-one at f) ∙ rw (add-one, ← g, d)
+
+epochs-stay : (t : Task) (used i n : ℕ) → i ≤ n → NotDone (epochsTo t used i .answer) → epochsTo t used n ≡ epochsTo t used i
+unfolding epochsTo
+epochs-stay t used i zero h d = let e : i ≡ 0 = omega arith in rw e
+epochs-stay t used i (suc n) h d = elim (decLe i n) [
+  | yes k ↦ rw (epochs-stay t used i n k d) (stays (epochsTo t used i .answer) (epochsTo t used i) _ d)
+  | no k ↦ let e : i ≡ suc n = omega arith in rw e
+]
+
+pub epochs-refused : (t : Task) (used at e : ℕ) (q p : Run) → q ≡ epochsTo t used e → q .answer ≡ Done at → p ≡ epochOf t (e + 1) q at → NotDone (p .answer) → e < t .epochs
+    → p ≡ train t used
+epochs-refused t used at e q p g d f n h =
+    let k = epochs-step t used at e q p g d f in
+    k ∙ sym (epochs-stay t used (e + 1) (t .epochs) (omega arith) (subst (λ (z : Run). NotDone (z .answer)) k n))
+
+-- what the start leaves, and a refusal there
+pub beginning-run : (t : Task) (used broken : ℕ) (cs : List Float) (to counts : List ℕ) → cs ≡ started t → to ≡ fill 0 (t .n) → counts ≡ fill 0 (t .centers)
+    → broken ≡ lowestBroken cs (t .w) (t .centers)
+    → runOf (cond (ltb broken (t .centers)) (CenterNotFinite Start 0 broken) (Done used)) cs to counts ≡ beginning t used
+unfolding beginning
+beginning-run t used broken cs to counts e f g h = rw (h, g, f, e)
+
+pub beginning-refused : (t : Task) (used : ℕ) (q : Run) → q ≡ beginning t used → NotDone (q .answer) → q ≡ train t used
+unfolding epochsTo
+beginning-refused t used q e d =
+    e ∙ sym (epochs-stay t used 0 (t .epochs) (omega arith) (subst (λ (z : Run). NotDone (z .answer)) e d))
+
+-- the start looks at no draws
+start-same : (f : Frame) (rows : List Float) (members : List ℕ) (residual draws : List Float) (epochs i j : ℕ)
+    → startAt (taskOf f rows members residual 0 []) i j ≡ startAt (taskOf f rows members residual epochs draws) i j
+unfolding startAt meanAt
+start-same f rows members residual draws epochs i j = refl
+
+pub started-same : (f : Frame) (rows : List Float) (members : List ℕ) (residual draws : List Float) (epochs : ℕ)
+    → started (taskOf f rows members residual 0 []) ≡ started (taskOf f rows members residual epochs draws)
+started-same f rows members residual draws epochs = grid-ext _ _ (f .centers) (f .w) (λ i h j l. start-same f rows members residual draws epochs i j)

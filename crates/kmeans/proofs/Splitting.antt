@@ -243,3 +243,7 @@ split-drawn t before epoch at i r q e f g h d =
     let P : Run → Type 0 = λ p. Drawn before (length (t .draws)) (p .answer) in
     let w = split-keeps t epoch P (λ i u q l f z p. fill-drawn t before epoch i u q (rw f at p)) r (rw g (omega arith)) i h in
     (rw (← e, f) at w) .1
+
+-- and where the epochs stand
+pub epochs-drawn-at : (t : Task) (before at e : ℕ) (q : Run) → q ≡ epochsTo t before e → q .answer ≡ Done at → before ≤ length (t .draws) → at ≤ length (t .draws)
+epochs-drawn-at t before at e q g f d = (rw (← g, f) at (epochs-drawn t before d e)) .1

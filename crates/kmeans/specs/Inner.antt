@@ -63,6 +63,14 @@ abbrev pub splitTask : Frame → List Float → Task
 splitTask f draws = taskOf f [] [] [] 0 draws
 
 -- the lent runs are as long as the frame says, the draws are in range, and no more are used than lent
+pub record Lent (f : Frame) (draws : List Float) (used : ℕ) (centers : List Float) (assigned counts : List ℕ) : Type 0 where
+  pub centers-long : length centers ≡ f .centers * f .w
+  pub assigned-long : length assigned ≡ f .n
+  pub counts-long : length counts ≡ f .centers
+  pub in-range : NotNegative draws
+  pub drawn : used ≤ length draws
+
+-- the same as splitting asks it
 pub record Splittable (f : Frame) (draws : List Float) (used : ℕ) (centers : List Float) (counts : List ℕ) : Type 0 where
   pub rows-le : f .n ≤ 100_001
   pub some-center : 0 < f .centers

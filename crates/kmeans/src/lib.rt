@@ -13,9 +13,9 @@ ghost use lib.IntN.{pos};
 ghost use lib.Ieee.{add, sub, mul, div, ofInt, binary32, binary64};
 ghost use Rattle.lists.specs.Lists.{Part, tab, fill, part, putPart, grid};
 ghost use Rattle.metrics.specs.Distance.{valueIn, zero32};
-ghost use Rattle.kmeans.specs.Kmeans.{lessOf, distanceTo, chosen, assignedOf, started, averagesOf, countsOf, countAt, meanOf, raised, one32, finiteCenter, lowestBroken, gotAt, leftAt, down32, up32, coordinate, splitCenters, splitCounts, stepsOf, walkAt, splitOff, fillCenter, fillIfEmpty, splitTo, epochOf, epochsTo, train};
+ghost use Rattle.kmeans.specs.Kmeans.{lessOf, distanceTo, chosen, assignedOf, started, averagesOf, countsOf, countAt, meanOf, raised, one32, finiteCenter, lowestBroken, gotAt, leftAt, down32, up32, coordinate, splitCenters, splitCounts, stepsOf, walkAt, splitOff, fillCenter, fillIfEmpty, splitTo, averaged, epochOf, epochsTo, beginning, train};
 ghost use Rattle.kmeans.specs.Frame.{memberOf, taskOf, Framed, Assigned};
-ghost use Rattle.kmeans.specs.Inner.{addedAt, addedTo, columnSum, centerSum, meanIn, meansOf, meansAt, startFrom, finiteIn, leftIn, runOf, splitTask, Splittable};
+ghost use Rattle.kmeans.specs.Inner.{addedAt, addedTo, columnSum, centerSum, meanIn, meansOf, meansAt, startFrom, finiteIn, leftIn, runOf, splitTask, Splittable, Lent};
 use metrics::Worked;
 
 // What a centre and its split-off twin are moved apart by.
@@ -549,4 +549,157 @@ pub fn split_center(
         at = next;
     }
     Clustered::Done(at)
+}
+
+// Steps 3 and 4 of one epoch, with the test for 9.
+fn average(
+    f: Frame,
+    rows: &[f32],
+    members: &[u32],
+    residual: &[f32],
+    used: usize,
+    epoch: u32,
+    centers: &mut [f32],
+    assigned: &mut [u32],
+    counts: &mut [u32],
+) -> Clustered
+    requires { ⌜ Framed f (now rows) (now members) (now residual) ⌝ }
+    requires { ⌜ (length (now centers) ≡ f .centers * f .w) × (length (now assigned) ≡ f .n) × (length (now counts) ≡ f .centers) ⌝ }
+    ensures { λ r. ⌜ runOf r (now (centers .exit)) (now (assigned .exit)) (now (counts .exit)) ≡ averaged (taskOf f (now (rows .entry)) (now (members .entry)) (now (residual .entry)) 0 []) epoch (runOf (Clustered.Done used) (now (centers .entry)) (now (assigned .entry)) (now (counts .entry))) used ⌝ }
+{
+    search_data(f, rows, members, residual, centers, assigned);
+    update_center(f, rows, members, residual, assigned, centers, counts);
+    let broken = lowest_broken(centers, f.w, f.centers);
+    if broken < f.centers {
+        Clustered::NotFinite {
+            step: Step::Averaging,
+            epoch,
+            center: broken as u32,
+        }
+    } else {
+        Clustered::Done(used)
+    }
+}
+
+// One epoch: assign, average, and split unless it is the last.
+fn run_epoch(
+    f: Frame,
+    rows: &[f32],
+    members: &[u32],
+    residual: &[f32],
+    draws: &[f64],
+    used: usize,
+    epoch: u32,
+    epochs: u32,
+    centers: &mut [f32],
+    assigned: &mut [u32],
+    counts: &mut [u32],
+) -> Clustered
+    requires { ⌜ Framed f (now rows) (now members) (now residual) ⌝ }
+    requires { ⌜ Lent f (now draws) used (now centers) (now assigned) (now counts) ⌝ }
+    ensures { λ r. ⌜ runOf r (now (centers .exit)) (now (assigned .exit)) (now (counts .exit)) ≡ epochOf (taskOf f (now (rows .entry)) (now (members .entry)) (now (residual .entry)) epochs (now (draws .entry))) epoch (runOf (Clustered.Done used) (now (centers .entry)) (now (assigned .entry)) (now (counts .entry))) used ⌝ }
+{
+    let c = average(
+        f,
+        rows,
+        members,
+        residual,
+        used,
+        epoch,
+        centers,
+        assigned,
+        counts,
+    );
+    let Clustered::Done(at) = c else {
+        return c;
+    };
+    if epoch < epochs {
+        split_center(f, draws, at, epoch, centers, counts)
+    } else {
+        c
+    }
+}
+
+// All epochs, from the centres of the start on.
+fn run_epochs(
+    f: Frame,
+    rows: &[f32],
+    members: &[u32],
+    residual: &[f32],
+    draws: &[f64],
+    used: usize,
+    epochs: u32,
+    centers: &mut [f32],
+    assigned: &mut [u32],
+    counts: &mut [u32],
+) -> Clustered
+    requires { ⌜ Framed f (now rows) (now members) (now residual) ⌝ }
+    requires { ⌜ Lent f (now draws) used (now centers) (now assigned) (now counts) ⌝ }
+    requires { ⌜ (epochs ≤ 1000) × (runOf (Clustered.Done used) (now centers) (now assigned) (now counts) ≡ beginning (taskOf f (now rows) (now members) (now residual) epochs (now draws)) used) ⌝ }
+    ensures { λ r. ⌜ runOf r (now (centers .exit)) (now (assigned .exit)) (now (counts .exit)) ≡ train (taskOf f (now (rows .entry)) (now (members .entry)) (now (residual .entry)) epochs (now (draws .entry))) used ⌝ }
+{
+    let mut at = used;
+    for e in 0..epochs {
+        let c = run_epoch(
+            f,
+            rows,
+            members,
+            residual,
+            draws,
+            at,
+            e + 1,
+            epochs,
+            centers,
+            assigned,
+            counts,
+        );
+        let Clustered::Done(next) = c else {
+            return c;
+        };
+        at = next;
+    }
+    Clustered::Done(at)
+}
+
+// The whole k-means but the last assignment, `used` draws having been used before it.
+pub fn train(
+    f: Frame,
+    rows: &[f32],
+    members: &[u32],
+    residual: &[f32],
+    draws: &[f64],
+    used: usize,
+    epochs: u32,
+    centers: &mut [f32],
+    assigned: &mut [u32],
+    counts: &mut [u32],
+) -> Clustered
+    requires { ⌜ Framed f (now rows) (now members) (now residual) ⌝ }
+    requires { ⌜ Lent f (now draws) used (now centers) (now assigned) (now counts) ⌝ }
+    requires { ⌜ epochs ≤ 1000 ⌝ }
+    ensures { λ r. ⌜ runOf r (now (centers .exit)) (now (assigned .exit)) (now (counts .exit)) ≡ train (taskOf f (now (rows .entry)) (now (members .entry)) (now (residual .entry)) epochs (now (draws .entry))) used ⌝ }
+{
+    init_center(f, rows, members, residual, centers);
+    lists::fill_numbers(assigned, 0);
+    lists::fill_numbers(counts, 0);
+    let broken = lowest_broken(centers, f.w, f.centers);
+    if broken < f.centers {
+        return Clustered::NotFinite {
+            step: Step::Start,
+            epoch: 0,
+            center: broken as u32,
+        };
+    }
+    run_epochs(
+        f,
+        rows,
+        members,
+        residual,
+        draws,
+        used,
+        epochs,
+        centers,
+        assigned,
+        counts,
+    )
 }
