@@ -2,13 +2,13 @@
 use Prim.Native.Nat.{ℕ, zero, suc, _+_, _*_, _≤_, _<_}
 use mathlib.Core.Path.{_≡_, refl, sym, _∙_, ap, ap₂}
 use mathlib.Core.List.{List, [], _∷_, _++_, append-assoc, append-nil}
-use native.Mathlib.Nat.{suc-mul, zero-mul, mul-le-mul-right}
+use native.Mathlib.Nat.{suc-mul, zero-mul, mul-le-mul-right, zero-add, suc-add}
 use native.Mathlib.Numerals.{add-one}
 use native.Mathlib.Omega.{arith}
-use lib.ListN.{length, take, drop, getD, length-append, drop-of-length-le}
-use lib.Seq.{take-all, drop-drop, drop-length}
+use lib.ListN.{length, take, drop, getD, set, length-append, length-drop, drop-of-length-le}
+use lib.Seq.{take-all, take-add, drop-drop, drop-length, getD-drop, set-append-left}
 use Rattle.lists.specs.Lists.{part, putPart, tab, fill, join, grid, strip}
-use Rattle.lists.proofs.Tables.{last-or, length-tab, tab-ext, getD-tab, fill-add}
+use Rattle.lists.proofs.Tables.{last-or, length-tab, tab-ext, getD-tab, tab-getD, tab-set, fill-add}
 use Rattle.lists.proofs.Parts.{part-append, part-seam, put-append, put-seam, getD-part}
 
 -- list i of g begins at `at i`
@@ -121,3 +121,34 @@ module _ {ℓ} {A : Type ℓ} where
   unfolding join tab
   grid-fill v zero w = rw zero-mul
   grid-fill v (suc n) w = rw suc-mul (fill-add v (n * w) w ∙ ap (λ (t : List A). t ++ fill v w) (grid-fill v n w))
+
+  -- a list as a grid of its elements
+  grid-take : (l : List A) (n w : ℕ) (d : A) → n * w ≤ length l → grid (λ (i j : ℕ). getD l (i * w + j) d) n w ≡ take (n * w) l
+  unfolding join
+  grid-take l zero w d h = rw zero-mul
+  grid-take l (suc n) w d h =
+      let m : n * w + w ≤ length l = omega (arith, suc-mul n w) in
+      let p : tab (λ (j : ℕ). getD l (n * w + j) d) w ≡ take w (drop (n * w) l) =
+      tab-ext _ _ w (λ j k. sym (getD-drop (n * w) l j d)) ∙ tab-getD (drop (n * w) l) w d (omega (arith, length-drop (n * w) l))
+      in
+      rw (suc-mul, take-add (n * w) w l) (ap₂ (λ (x y : List A). x ++ y) (grid-take l n w d (omega arith)) p)
+
+  pub grid-self : (l : List A) (n w : ℕ) (d : A) → length l ≡ n * w → l ≡ grid (λ (i j : ℕ). getD l (i * w + j) d) n w
+  grid-self l n w d e = sym (grid-take l n w d (omega arith) ∙ take-all (n * w) l (omega arith))
+
+  set-append-right : (xs ys : List A) (b : ℕ) (v : A) → set (xs ++ ys) (length xs + b) v ≡ xs ++ set ys b v
+  set-append-right [] ys b v = rw zero-add
+  set-append-right (x ∷ xs) ys b v = rw suc-add (ap (λ (l : List A). x ∷ l) (set-append-right xs ys b v))
+
+  -- a store to element b of stretch a, where g' is g but there
+  pub set-grid : (g g' : ℕ → ℕ → A) (n w a b : ℕ) → a < n → b < w → ((i j : ℕ) → ((i ≡ a) × (j ≡ b) → ⊥) → g i j ≡ g' i j)
+      → set (grid g n w) (a * w + b) (g' a b) ≡ grid g' n w
+  unfolding join
+  set-grid g g' zero w a b h k e = absurd (omega arith)
+  set-grid g g' (suc n) w a b h k e =
+      let l = length-grid g n w in
+      last-or a n h
+      (λ p. rw (p, ← l) (set-append-right (grid g n w) (tab (g n) w) b (g' n b))
+      ∙ ap₂ (λ (x y : List A). x ++ y) (grid-ext g g' n w (λ i q j r. e i j (λ z. omega arith))) (tab-set (g n) (g' n) w b k (λ j q. e n j (λ z. q (z .1)))))
+      (λ p. set-append-left (grid g n w) (tab (g n) w) (a * w + b) (g' a b) (omega (arith, within a n w p))
+      ∙ ap₂ (λ (x y : List A). x ++ y) (set-grid g g' n w a b p k e) (tab-ext (g n) (g' n) w (λ j q. e n j (λ z. omega arith))))

@@ -1,5 +1,6 @@
 pub mod Answers
 pub mod Training
+pub mod TrainInner
 pub mod Tables
 pub mod Refusals
 pub mod Results

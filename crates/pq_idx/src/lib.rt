@@ -1,4 +1,6 @@
 // The plain index: its training and its search.
+mod training;
+
 use kmeans::Step;
 
 // Which k-means of a training: the coarse one, or that of a sub-space of a cell (plain: cell 0).

@@ -1,0 +1,75 @@
+use borrow.Author.Needs.{needs}
+use Prim.Native.Nat.{ℕ, _*_}
+use mathlib.Core.Path.{_≡_, sym, _∙_, ap}
+use mathlib.Core.List.{List, [], _∷_}
+use native.Mathlib.Omega.{arith}
+use lib.ListN.{length}
+use Rattle.lists.proofs.Tables.{take-fresh, length-tab}
+use Rattle.lists.proofs.Joins.{within}
+use Rattle.kmeans.specs.Kmeans.{Run, train}
+use Rattle.kmeans.specs.Frame.{taskOf}
+use Rattle.pq_idx.proofs.TrainingLaws.{whole-framed, task-plain, range-held}
+use Rattle.pq_idx.proofs.training.train_stretch.Statement.{statement}
+use Rattle.pq_idx.proofs.training.train_stretch.Tie as tie
+use Rattle.pq_idx.proofs.training.train_stretch.Reads as reads
+use Rattle.pq_idx.proofs.training.train_stretch.Lts as lts
+use Rattle.kmeans.proofs.train.Reads as train-reads
+use Rattle.lists.proofs.part.Reads as part-reads
+
+part-requires : tie.Need-part-requires
+part-requires c κs =
+    let s = c .before .before .before .before in
+    range-held _ _ (s .pre .0)
+
+slice-aggregate-train : tie.Need-slice-aggregate-train
+slice-aggregate-train c = search needs
+
+array-borrow-prefix-counts : tie.Need-array-borrow-prefix-counts
+array-borrow-prefix-counts c = search needs
+
+slice-aggregate-train-2 : tie.Need-slice-aggregate-train-2
+slice-aggregate-train-2 c =
+    let s = c .before .before .before .before .before .before .before .before .before in
+    sym (ap length (take-fresh 0 (s .args .f .centers) 256 (s .pre .0 .centers-le)) ∙ length-tab _ _)
+
+train-requires : tie.Need-train-requires
+train-requires c κs =
+    let s = c .before .before .before .before .before .before .before .before .before in (
+      whole-framed _ _ (s .pre .0) (c .before .before .before .before .part .ensures .long),
+      (
+        record {
+          centers-long = s .pre .1 .0 .0;
+          assigned-long = s .pre .1 .0 .1;
+          counts-long = ap length (take-fresh 0 (s .args .f .centers) 256 (s .pre .0 .centers-le)) ∙ length-tab (λ i. 0) (s .args .f .centers);
+          in-range = s .pre .1 .1;
+          drawn = s .pre .1 .0 .3;
+        },
+        s .pre .1 .0 .2,
+      ),
+    )
+
+same-length : tie.Need-same-length
+same-length c = search needs
+
+same-length-2 : tie.Need-same-length-2
+same-length-2 c = search needs
+
+returns : tie.Need-returns
+returns c =
+    let s = c .before .before .before .before .before .before .before .before .before .before .before .before .before .before .before in
+    let a = s .args in
+    let e = c .before .before .before .before .before .train .ensures ∙ ap (λ t. train t (a .used)) (task-plain (a .f) (a .rows .now) (0 ∷ []) [] (c .before .before .before .before .before .before .before .before .before .before .part .result .now) [] (a .epochs) (a .draws .now) (s .pre .0 .plain) (s .pre .0 .unlisted)) in
+    record { said = ap (λ (r : Run). r .answer) e; made = ap (λ (r : Run). r .centers) e; chosen = ap (λ (r : Run). r .assigned) e }
+
+pub train-stretch-spec : {M : Type 1} → statement M
+train-stretch-spec =
+    tie.close
+    (tie.spec
+    part-requires
+    slice-aggregate-train
+    array-borrow-prefix-counts
+    slice-aggregate-train-2
+    train-requires
+    same-length
+    same-length-2
+    returns)

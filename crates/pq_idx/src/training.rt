@@ -1,0 +1,89 @@
+// Training of the plain index: the sub-spaces rising, each into its own stretch of the lent sub-centres, draws running through.
+ghost use mathlib.Core.Path.{_≡_};
+ghost use mathlib.Core.Bool.{true, false};
+ghost use Prim.Native.Nat.{ℕ, _+_, _*_, _≤_, _<_};
+ghost use mathlib.Core.List.{List, []};
+ghost use lib.ListN.{length, getD};
+ghost use Rattle.lists.specs.Lists.{grid};
+ghost use Rattle.pq_params.specs.Bounds.{badPlain, badRange, centersOf};
+ghost use Rattle.pq_params.specs.Ranges.{beginOf, widthOf};
+ghost use Rattle.kmeans.specs.Kmeans.{assignedOf};
+ghost use Rattle.kmeans.specs.Frame.{taskOf, Framed};
+ghost use Rattle.kmeans.specs.Inner.{Lent, runOf};
+ghost use Rattle.kmeans.specs.Kmeans.{train};
+ghost use Rattle.kmeans.specs.Splits.{NotNegative};
+ghost use Rattle.pq_idx.specs.TrainInner.{frameOf, plainOf, Trainable, Whole, Ran, storedAt, stored, Learnt};
+ghost use Rattle.pq_idx.specs.Training.{taskOf as subTask};
+use kmeans::Clustered;
+use kmeans::Frame;
+
+// The frame of sub-space s.
+fn frame(d: usize, n_sub: usize, sub_bits: usize, n: usize, s: usize) -> Frame
+    requires { ⌜ (badPlain d «n_sub» «sub_bits» ≡ false) × (s < «n_sub») ⌝ }
+    ensures { λ r. ⌜ r ≡ frameOf d «n_sub» «sub_bits» n s ⌝ }
+{
+    Frame {
+        d,
+        begin: pq_params::range_begin(d, n_sub, s),
+        w: pq_params::range_width(d, n_sub, s),
+        listed: false,
+        has: false,
+        n,
+        centers: pq_params::centers(sub_bits),
+    }
+}
+
+// The k-means of one sub-space over all rows, without residual.
+fn train_stretch(
+    f: Frame,
+    rows: &[f32],
+    draws: &[f64],
+    used: usize,
+    epochs: u32,
+    centers: &mut [f32],
+    assigned: &mut [u32],
+) -> Clustered
+    requires { ⌜ Whole f (now rows) ⌝ }
+    requires { ⌜ (length (now centers) ≡ f .centers * f .w) × (length (now assigned) ≡ f .n) × (epochs ≤ 1000) × (used ≤ length (now draws)) ⌝ }
+    requires { ⌜ NotNegative (now draws) ⌝ }
+    ensures { λ r. ⌜ Ran (taskOf f (now (rows .entry)) [] [] epochs (now (draws .entry))) used r (now (centers .exit)) (now (assigned .exit)) ⌝ }
+{
+    let mut counts = [0u32; 256];
+    let nobody = [0u32; 1];
+    let k = f.centers;
+    let none = lists::part(rows, 0, f.w);
+    kmeans::train(
+        f,
+        rows,
+        &nobody,
+        none,
+        draws,
+        used,
+        epochs,
+        centers,
+        assigned,
+        &mut counts[..k],
+    )
+}
+
+// The last assignment of one sub-space.
+fn assign_stretch(f: Frame, rows: &[f32], centers: &[f32], assigned: &mut [u32])
+    requires { ⌜ Whole f (now rows) ⌝ }
+    requires { ⌜ (length (now centers) ≡ f .centers * f .w) × (length (now assigned) ≡ f .n) ⌝ }
+    ensures { λ _. ⌜ now (assigned .exit) ≡ assignedOf (taskOf f (now (rows .entry)) [] [] 0 []) (now (centers .entry)) ⌝ }
+{
+    let nobody = [0u32; 1];
+    let none = lists::part(rows, 0, f.w);
+    kmeans::search_data(f, rows, &nobody, none, centers, assigned);
+}
+
+// The assignments become column s of the codes.
+fn store_codes(assigned: &[u32], n_sub: usize, s: usize, codes: &mut [u8])
+    requires { ⌜ (s < «n_sub») × («n_sub» ≤ 64) × (length (now assigned) ≤ 100_001) × (length (now codes) ≡ length (now assigned) * «n_sub») ⌝ }
+    requires { ⌜ ((k : ℕ) → k < length (now assigned) → getD (now assigned) k 0 < 256) ⌝ }
+    ensures { λ _. ⌜ now (codes .exit) ≡ stored (now (codes .entry)) (now (assigned .entry)) (length (now (assigned .entry))) «n_sub» s ⌝ }
+{
+    for k in 0..assigned.len() {
+        codes[k * n_sub + s] = assigned[k] as u8;
+    }
+}
