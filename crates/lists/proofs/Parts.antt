@@ -89,3 +89,10 @@ module _ {ℓ} {A : Type ℓ} where
       let q : drop j (drop a s) ≡ getD (drop a s) j d ∷ drop (suc j) (drop a s) = drop-cons (drop a s) j d (omega (arith, length-drop a s)) in
       rw (q, ← append-assoc (take a s) p (getD (drop a s) j d ∷ drop (suc j) (drop a s)))
       (set-at (take a s ++ p) (getD (drop a s) j d) (drop (suc j) (drop a s)) v (a + j) l ∙ simp append-assoc)
+
+  -- a part that was put in, taken out again
+  pub part-put : (s p : List A) (a w : ℕ) → a ≤ length s → length p ≡ w → part (putPart s a w p) a w ≡ p
+  unfolding part putPart
+  part-put s p a w h e =
+      let l : length (take a s) ≡ a = simp length-take (omega arith) in
+      rw (drop-at (take a s) (p ++ drop w (drop a s)) a l) (take-at p (drop w (drop a s)) w e)

@@ -3,7 +3,7 @@ use Prim.Native.Nat.{ℕ, zero, suc, _+_, _*_, _≤_, _<_}
 use mathlib.Core.Path.{_≡_, refl, sym, _∙_, ap, fun-ext}
 use mathlib.Core.List.{List, []}
 use mathlib.Core.Bool.{Bool, true, false, cond, _&&_, false≢true}
-use native.Mathlib.Nat.{add-assoc}
+use native.Mathlib.Nat.{add-assoc, lt-of-lt-of-le}
 use native.Mathlib.Numerals.{add-one}
 use native.Mathlib.Decide.{decLt, ℕ-discrete}
 use native.Mathlib.Omega.{arith}
@@ -15,7 +15,9 @@ use Rattle.lists.specs.Lists.{grid}
 use Rattle.lists.proofs.Joins.{within, grid-ext, grid-self, set-grid}
 use Rattle.metrics.specs.Distance.{valueOf}
 use Rattle.kmeans.specs.declared.Frame.{Frame}
-use Rattle.kmeans.specs.Kmeans.{Task}
+use Rattle.lists.proofs.Tables.{length-tab, getD-tab}
+use Rattle.kmeans.specs.Kmeans.{Task, assignedOf, chosenAt}
+use Rattle.kmeans.proofs.Laws.{nearest-lt}
 use Rattle.kmeans.specs.Frame.{memberOf, valueAt, taskOf, Framed}
 use Rattle.pq_idx.specs.TrainInner.{Whole, storedAt}
 
@@ -89,3 +91,11 @@ module _ (codes to : List ℕ) (nsub s : ℕ) where
   stored-step n k v now h l e f =
       let g : v ≡ storedAt codes to nsub s (k + 1) k s = f ∙ sym (here (k + 1) k s (omega arith) refl) in
       rw (g, e) (set-grid (storedAt codes to nsub s k) (storedAt codes to nsub s (k + 1)) n nsub k s h l (same-elsewhere k))
+
+-- ---- the last assignment
+
+-- the assignments to at most 256 centres are bytes
+pub codes-fit : (t : Task) (cs : List Float) (to : List ℕ) → 0 < t .centers → t .centers ≤ 256 → to ≡ assignedOf t cs → (k : ℕ) → k < length to → getD to k 0 < 256
+codes-fit t cs to h l e k m =
+    let p : k < t .n = omega (arith, ap length e ∙ length-tab (chosenAt t cs) (t .n)) in
+    rw (e, getD-tab (chosenAt t cs) (t .n) k 0 p) (lt-of-lt-of-le (nearest-lt _ (t .centers) h) l)

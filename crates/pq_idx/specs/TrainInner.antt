@@ -8,7 +8,7 @@ use lib.Dec.{eqb, ltb}
 use lib.Ieee.{Float}
 use Rattle.lists.specs.Lists.{grid, putPart}
 use Rattle.pq_params.specs.Bounds.{badPlain, centersOf}
-use Rattle.pq_params.specs.Ranges.{beginOf, widthOf}
+use Rattle.pq_params.specs.Ranges.{beginOf, widthOf, coveredOf}
 use Rattle.kmeans.specs.declared.Frame.{Frame}
 use Rattle.kmeans.specs.declared.Clustered.{Clustered}
 use Rattle.kmeans.specs.declared.Clustered.the-variants.{Done, OutOfDraws, NotFinite}
@@ -51,6 +51,13 @@ pub record Trainable (d nsub bits epochs n : ℕ) (rows draws : List Float) : Ty
   pub rows-long : length rows ≡ n * d
   pub in-range : NotNegative draws
 
+-- the outputs and the assignments are as long as document 01 says, and no more draws are used than lent
+pub record Outputs (d nsub bits n used : ℕ) (draws subs : List Float) (codes assigned : List ℕ) : Type 0 where
+  pub subs-long : length subs ≡ centersOf bits * coveredOf d nsub
+  pub codes-long : length codes ≡ n * nsub
+  pub assigned-long : length assigned ≡ n
+  pub drawn : used ≤ length draws
+
 -- a frame over all rows, without residual, that the rows hold
 pub record Whole (f : Frame) (rows : List Float) : Type 0 where
   pub plain : f .has ≡ false
@@ -67,6 +74,14 @@ pub record Whole (f : Frame) (rows : List Float) : Type 0 where
 pub record Ran (t : Task) (used : ℕ) (answer : Clustered) (centers : List Float) (assigned : List ℕ) : Type 0 where
   pub said : answer ≡ train t used .answer
   pub made : centers ≡ train t used .centers
+  pub long : length centers ≡ t .centers * t .w
+  pub chosen : assigned ≡ train t used .assigned
+
+-- the same, where the centres are the w elements of the sub-centres from `at` on
+pub record RanAt (t : Task) (used at w : ℕ) (subs : List Float) (answer : Clustered) (subs' : List Float) (assigned : List ℕ) : Type 0 where
+  pub said : answer ≡ train t used .answer
+  pub placed : subs' ≡ putPart subs at w (train t used .centers)
+  pub long : length (train t used .centers) ≡ w
   pub chosen : assigned ≡ train t used .assigned
 
 -- codes with the assignments `to` in column s
@@ -75,6 +90,11 @@ storedAt codes to nsub s k m q = cond (ltb m k && eqb q s) (getD to m 0) (getD c
 
 abbrev pub stored : List ℕ → List ℕ → ℕ → ℕ → ℕ → List ℕ
 stored codes to n nsub s = grid (storedAt codes to nsub s n) n nsub
+
+-- what the last assignment to the centres cs leaves
+pub record CodedAt (t : Task) (cs : List Float) (n nsub s : ℕ) (codes codes' assigned : List ℕ) : Type 0 where
+  pub chosen : assigned ≡ assignedOf t cs
+  pub coded : codes' ≡ stored codes (assignedOf t cs) n nsub s
 
 -- after sub-space s: the codes and the assignments, where it was trained, and where it was refused
 abbrev pub codesAfter : Clustered → List ℕ → List ℕ → List ℕ

@@ -4,7 +4,7 @@ ghost use mathlib.Core.Bool.{true, false};
 ghost use Prim.Native.Nat.{ℕ, _+_, _*_, _≤_, _<_};
 ghost use mathlib.Core.List.{List, []};
 ghost use lib.ListN.{length, getD};
-ghost use Rattle.lists.specs.Lists.{grid};
+ghost use Rattle.lists.specs.Lists.{grid, part};
 ghost use Rattle.pq_params.specs.Bounds.{badPlain, badRange, centersOf};
 ghost use Rattle.pq_params.specs.Ranges.{beginOf, widthOf};
 ghost use Rattle.kmeans.specs.Kmeans.{assignedOf};
@@ -12,7 +12,7 @@ ghost use Rattle.kmeans.specs.Frame.{taskOf, Framed};
 ghost use Rattle.kmeans.specs.Inner.{Lent, runOf};
 ghost use Rattle.kmeans.specs.Kmeans.{train};
 ghost use Rattle.kmeans.specs.Splits.{NotNegative};
-ghost use Rattle.pq_idx.specs.TrainInner.{frameOf, plainOf, Trainable, Whole, Ran, storedAt, stored, Learnt};
+ghost use Rattle.pq_idx.specs.TrainInner.{frameOf, plainOf, Trainable, Outputs, Whole, Ran, RanAt, CodedAt, storedAt, stored, Learnt};
 ghost use Rattle.pq_idx.specs.Training.{taskOf as subTask};
 use kmeans::Clustered;
 use kmeans::Frame;
@@ -86,4 +86,44 @@ fn store_codes(assigned: &[u32], n_sub: usize, s: usize, codes: &mut [u8])
     for k in 0..assigned.len() {
         codes[k * n_sub + s] = assigned[k] as u8;
     }
+}
+
+// The same, into the stretch of the sub-centres that begins at `at`.
+fn train_at(
+    f: Frame,
+    rows: &[f32],
+    draws: &[f64],
+    used: usize,
+    epochs: u32,
+    subs: &mut [f32],
+    at: usize,
+    assigned: &mut [u32],
+) -> Clustered
+    requires { ⌜ Whole f (now rows) ⌝ }
+    requires { ⌜ (at + f .centers * f .w ≤ length (now subs)) × (length (now assigned) ≡ f .n) × (epochs ≤ 1000) × (used ≤ length (now draws)) ⌝ }
+    requires { ⌜ NotNegative (now draws) ⌝ }
+    ensures { λ r. ⌜ RanAt (taskOf f (now (rows .entry)) [] [] epochs (now (draws .entry))) used at (f .centers * f .w) (now (subs .entry)) r (now (subs .exit)) (now (assigned .exit)) ⌝ }
+{
+    let e = at + f.centers * f.w;
+    train_stretch(f, rows, draws, used, epochs, &mut subs[at..e], assigned)
+}
+
+// The last assignment, against the stretch of the sub-centres that begins at `at`, and its column of the codes.
+fn code_at(
+    f: Frame,
+    rows: &[f32],
+    subs: &[f32],
+    at: usize,
+    n_sub: usize,
+    s: usize,
+    codes: &mut [u8],
+    assigned: &mut [u32],
+)
+    requires { ⌜ Whole f (now rows) ⌝ }
+    requires { ⌜ (at + f .centers * f .w ≤ length (now subs)) × (length (now assigned) ≡ f .n) × (s < «n_sub») × («n_sub» ≤ 64) × (length (now codes) ≡ f .n * «n_sub») ⌝ }
+    ensures { λ _. ⌜ CodedAt (taskOf f (now (rows .entry)) [] [] 0 []) (part (now (subs .entry)) at (f .centers * f .w)) (f .n) «n_sub» s (now (codes .entry)) (now (codes .exit)) (now (assigned .exit)) ⌝ }
+{
+    let c = lists::part(subs, at, f.centers * f.w);
+    assign_stretch(f, rows, c, assigned);
+    store_codes(assigned, n_sub, s, codes);
 }

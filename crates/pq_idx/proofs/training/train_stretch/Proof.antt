@@ -58,8 +58,10 @@ returns : tie.Need-returns
 returns c =
     let s = c .before .before .before .before .before .before .before .before .before .before .before .before .before .before .before in
     let a = s .args in
-    let e = c .before .before .before .before .before .train .ensures ∙ ap (λ t. train t (a .used)) (task-plain (a .f) (a .rows .now) (0 ∷ []) [] (c .before .before .before .before .before .before .before .before .before .before .part .result .now) [] (a .epochs) (a .draws .now) (s .pre .0 .plain) (s .pre .0 .unlisted)) in
-    record { said = ap (λ (r : Run). r .answer) e; made = ap (λ (r : Run). r .centers) e; chosen = ap (λ (r : Run). r .assigned) e }
+    let v = c .before .before .before .before .before .train in
+    let e = v .ensures ∙ ap (λ t. train t (a .used)) (task-plain (a .f) (a .rows .now) (0 ∷ []) [] (c .before .before .before .before .before .before .before .before .before .before .part .result .now) [] (a .epochs) (a .draws .now) (s .pre .0 .plain) (s .pre .0 .unlisted)) in
+    let l : length (v .last .1 .1 .1 .1 .1 .1 .1 .0) ≡ length (a .centers .now) = search needs in
+    record { said = ap (λ (r : Run). r .answer) e; made = ap (λ (r : Run). r .centers) e; long = l ∙ s .pre .1 .0 .0; chosen = ap (λ (r : Run). r .assigned) e }
 
 pub train-stretch-spec : {M : Type 1} → statement M
 train-stretch-spec =
