@@ -1,4 +1,5 @@
 pub mod Tables
+pub mod TakeDrop
 pub mod Parts
 pub mod Joins
 pub mod Tests

@@ -11,6 +11,7 @@ use lib.Dec.{eqb}
 use lib.Ieee.{Float}
 use Rattle.lists.specs.Lists.{part, tab, fill, join}
 use Rattle.lists.proofs.Tables.{last-or, map-tab, length-tab, getD-tab}
+use Rattle.lists.proofs.TakeDrop.{map-take}
 use Rattle.lists.proofs.Parts.{getD-part}
 use Rattle.neighbor.specs.declared.Candidate.{Candidate}
 use Rattle.neighbor.specs.Neighbor.{comesBefore, insertBy, insertAll, ordered, firstOf, rowOf, blankRow}
@@ -203,11 +204,6 @@ module _ (a : Asked) (passes : Passes (a .index)) where
       (λ m p q h k s t. distinct-places (probed a) (probed-distinct a) p q h k
       (one-cell (a .index) passes m (probedAt a p) (probedAt a q) (candidate-cell (probedAt a p) m s) (candidate-cell (probedAt a q) m t)))
 
-map-take : (k : ℕ) (l : List Candidate) → rowsOf (take k l) ≡ take k (rowsOf l)
-map-take zero l = refl
-map-take (suc k) [] = refl
-map-take (suc k) (c ∷ l) = ap (λ (t : List ℕ). c .row ∷ t) (map-take k l)
-
 either {ℓ κ} : {A : Type ℓ} (P : A → Type κ) (t : Bool) (x y : A) → P x → P y → P (cond t x y)
 either P true x y f g = f
 either P false x y f g = g
@@ -217,7 +213,7 @@ answered-once l cs d p q h k e =
     let t = firstOf (askedOf l) cs in
     let w = length-map t rowOf in
     let f = fill blankRow (askedOf l - length t) in
-    let dt : Distinct (rowsOf t) = rw (map-take (askedOf l) (ordered cs)) (distinct-take (askedOf l) (rowsOf (ordered cs)) (distinct-ordered cs d)) in
+    let dt : Distinct (rowsOf t) = rw (map-take rowOf (askedOf l) (ordered cs)) (distinct-take (askedOf l) (rowsOf (ordered cs)) (distinct-ordered cs d)) in
     distinct-places (rowsOf t) dt p q (omega arith) (omega arith)
     (sym (List·getD-append (rowsOf t) f 0 p (omega arith)) ∙ e ∙ List·getD-append (rowsOf t) f 0 q (omega arith))
 
