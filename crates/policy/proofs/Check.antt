@@ -2,10 +2,10 @@
 use Prim.Native.Nat.{ℕ, suc, _+_, _-_, _<_, min}
 use mathlib.Core.Path.{_≡_, refl, sym, _∙_}
 use mathlib.Core.Logic.{_↔_}
-use mathlib.Core.Bool.{Bool, true, false, cond, not}
+use mathlib.Core.Bool.{Bool, true, false, cond}
 use mathlib.Core.List.{List, [], _∷_, _++_}
 use native.Mathlib.Omega.{arith}
-use borrow.Author.Tests.{ltb-true, ltb-false, lt-ltb, le-ltb, leb-true, le-leb, eqb-true, eqb-false, eq-eqb, ne-eqb, not-false}
+use borrow.Author.Tests.{ltb-true, ltb-false, lt-ltb, le-ltb, leb-true, le-leb, eqb-true, eq-eqb, ne-eqb, not-false}
 use lib.ListN.{length, getD, length-take, length-drop}
 use lib.Dec.{ltb, leb, eqb}
 use Rattle.lists.specs.Lists.{part}
@@ -13,6 +13,7 @@ use Rattle.lists.specs.Tests.{anyOf, every, rising}
 use Rattle.lists.proofs.Parts.{getD-part}
 use Rattle.lists.proofs.Tests.{none, and-l, and-r, and-both, every-true, every-of}
 use Rattle.pq_params.specs.Bounds.{tooManyRows, centersOf}
+use Rattle.pq_params.proofs.Bounds.{range-bounds, plain-bounds, celled-bounds}
 use Rattle.pq_idx.specs.Refusals.{notLong}
 use Rattle.pq_idx.specs.Tables.{codeAt, codesBelow}
 use Rattle.ivfpq_idx.specs.declared.Checked.the-variants.{Accepted, Refused}
@@ -153,20 +154,10 @@ below-follows x e s u c = part-below (x .members) (x .n) _ _ (members-below (x .
 module _ (x : Index) where
   bounds-of : anyOf (indexTests x) ≡ false → tooManyRows (x .n) ≡ false → InBounds x
   bounds-of e f =
-      let t = none (indexTests x) e in
-      record {
-        d-least = omega (arith, eqb-false (x .d) 0 (t 0));
-        d-most = ltb-false 256 (x .d) (t 1);
-        nsub-least = omega (arith, eqb-false (x .nsub) 0 (t 2));
-        nsub-most = ltb-false 64 (x .nsub) (t 3);
-        nsub-of-d = ltb-false (x .d) (x .nsub) (t 4);
-        bits-most = ltb-false 8 (x .bits) (t 5);
-        cells-least = omega (arith, eqb-false (x .cells) 0 (t 6));
-        cells-most = ltb-false 1024 (x .cells) (t 7);
-        probes-least = omega (arith, eqb-false (x .probes) 0 (t 8));
-        probes-most = ltb-false (x .cells) (x .probes) (t 9);
-        n-most = ltb-false 100_001 (x .n) f;
-      }
+      let celled = celled-bounds (x .d) (x .nsub) (x .bits) (x .cells) (x .probes) e in
+      let plain = plain-bounds (x .d) (x .nsub) (x .bits) (celled .plain) in
+      let range = range-bounds (x .d) (x .nsub) (plain .range) in
+      omega (arith, ltb-false 100_001 (x .n) f)
 
   tests-of : InBounds x → anyOf (indexTests x) ≡ false
   tests-of b =
