@@ -3,3 +3,5 @@ pub mod TakeDrop
 pub mod Parts
 pub mod Joins
 pub mod Tests
+pub mod Counting
+pub mod Rising

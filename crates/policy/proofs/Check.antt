@@ -11,6 +11,8 @@ use lib.Dec.{ltb, leb, eqb}
 use Rattle.lists.specs.Lists.{part}
 use Rattle.lists.specs.Tests.{anyOf, every, rising}
 use Rattle.lists.proofs.Parts.{getD-part}
+use Rattle.lists.proofs.Counting.{counted, count-found, count-once, once-count, count-full, count-below}
+use Rattle.lists.proofs.Rising.{rising-true, rising-of}
 use Rattle.lists.proofs.Tests.{none, and-l, and-r, and-both, every-true, every-of}
 use Rattle.pq_params.specs.Bounds.{tooManyRows, centersOf}
 use Rattle.pq_params.proofs.Bounds.{range-bounds, plain-bounds, celled-bounds}
@@ -21,7 +23,6 @@ use Rattle.ivfpq_idx.specs.Lists.{startOf, startsSound, listSound}
 use Rattle.ivfpq_idx.specs.Check.{Index, indexSound, places}
 use Rattle.ivfpq_idx.specs.Outcomes.{CheckIn, CheckOut, indexTests, indexLengths, checkRefusal, checkOutcome}
 use Rattle.policy.specs.Check.{InBounds, RightLengths, HoldsAt, StandsIn, EachBelow, EachBelowNext, listAt, InOrder, Acceptable}
-use Rattle.policy.proofs.Counting.{counted, count-found, count-once, once-count, count-full, count-below}
 
 -- ---- a row stands once
 
@@ -61,21 +62,16 @@ stands-alike k l m e =
 
 module _ (n : ℕ) (l : List ℕ) where
   pub list-sound : EachBelow n l → EachBelowNext l → listSound n l ≡ true
-  unfolding listSound rising
-  list-sound b r =
-      and-both
-      (every-of (λ (i : ℕ). ltb (getD l i 0) n) (length l) (λ i h. lt-ltb (getD l i 0) n (b i h)))
-      (every-of (λ (i : ℕ). ltb (getD l i 0) (getD l (suc i) 0)) (length l - 1) (λ i h. lt-ltb (getD l i 0) (getD l (suc i) 0) (r i (omega arith))))
+  unfolding listSound
+  list-sound b r = and-both (every-of (λ (i : ℕ). ltb (getD l i 0) n) (length l) (λ i h. lt-ltb (getD l i 0) n (b i h))) (rising-of l r)
 
   pub list-below : listSound n l ≡ true → EachBelow n l
   unfolding listSound
   list-below e i h = ltb-true (getD l i 0) n (every-true (λ (i : ℕ). ltb (getD l i 0) n) (length l) (and-l _ (rising l) e) i h)
 
   pub list-rises : listSound n l ≡ true → EachBelowNext l
-  unfolding listSound rising
-  list-rises e i h =
-      ltb-true (getD l i 0) (getD l (suc i) 0)
-      (every-true (λ (i : ℕ). ltb (getD l i 0) (getD l (suc i) 0)) (length l - 1) (and-r (every (λ (i : ℕ). ltb (getD l i 0) n) (length l)) _ e) i (omega arith))
+  unfolding listSound
+  list-rises e = rising-true l (and-r (every (λ (i : ℕ). ltb (getD l i 0) n) (length l)) _ e)
 
 -- ---- the index is sound
 

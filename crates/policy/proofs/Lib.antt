@@ -1,5 +1,4 @@
-pub mod Rising
-pub mod Counting
+pub mod Standing
 pub mod Check
 pub mod Policy
 pub mod PolicyExamples

@@ -13,6 +13,7 @@ use Rattle.lists.specs.Lists.{part, tab, fill, join}
 use Rattle.lists.proofs.Tables.{last-or, map-tab, length-tab, getD-tab}
 use Rattle.lists.proofs.TakeDrop.{map-take}
 use Rattle.lists.proofs.Parts.{getD-part}
+use Rattle.lists.proofs.Rising.{Rises, rises-keep}
 use Rattle.neighbor.specs.declared.Candidate.{Candidate}
 use Rattle.neighbor.specs.Neighbor.{comesBefore, insertBy, insertAll, ordered, firstOf, rowOf, blankRow}
 use Rattle.pq_idx.specs.Tables.{visible, visibleRows, sumAt, candidates}
@@ -23,7 +24,7 @@ use Rattle.ivfpq_idx.specs.Search.{Asked, cellAt, probed, probedAt, probedCell,
 use Rattle.ivfpq_idx.specs.Outcomes.{SearchIn, searchRefusal, searchOutcome}
 use Rattle.policy.specs.Check.{Passes, HoldsAt, StandsIn, listAt}
 use Rattle.policy.specs.Policy.{NoRowTwice}
-use Rattle.policy.proofs.Rising.{in-head, in-tail, in-cases, not-in-nil, Rises, rises-from, rises-keep, keep-from}
+use Rattle.policy.proofs.Standing.{in-head, in-tail, in-cases, not-in-nil, rises-from, keep-from}
 use Rattle.policy.proofs.Policy.{checked, no-cell, list-rising, row-below, undamaged}
 
 -- ---- lists in which no row stands twice
