@@ -5,3 +5,4 @@ pub mod Joins
 pub mod Tests
 pub mod Counting
 pub mod Rising
+pub mod Examples
