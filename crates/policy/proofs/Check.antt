@@ -1,16 +1,16 @@
 -- The whole check's definition says what document 01 says.
-use Prim.Native.Nat.{ℕ, suc, _+_, _-_, _<_, min}
+use Prim.Native.Nat.{ℕ, suc, _+_, _<_}
 use mathlib.Core.Path.{_≡_, refl, sym, _∙_}
 use mathlib.Core.Logic.{_↔_}
 use mathlib.Core.Bool.{Bool, true, false, cond}
 use mathlib.Core.List.{List, [], _∷_, _++_}
 use native.Mathlib.Omega.{arith}
 use borrow.Author.Tests.{ltb-true, ltb-false, lt-ltb, le-ltb, leb-true, le-leb, eqb-true, eq-eqb, ne-eqb, not-false}
-use lib.ListN.{length, getD, length-take, length-drop}
+use lib.ListN.{length, getD}
 use lib.Dec.{ltb, leb, eqb}
 use Rattle.lists.specs.Lists.{part}
 use Rattle.lists.specs.Tests.{anyOf, every, rising}
-use Rattle.lists.proofs.Parts.{getD-part}
+use Rattle.lists.proofs.Parts.{getD-part, within-part}
 use Rattle.lists.proofs.Counting.{counted, count-found, count-once, once-count, count-full, count-below}
 use Rattle.lists.proofs.Rising.{rising-true, rising-of}
 use Rattle.lists.proofs.Tests.{none, and-l, and-r, and-both, every-true, every-of}
@@ -136,10 +136,7 @@ members-below l n e s u i h =
     (count-below (λ (p : ℕ). getD l p 0) (length l) n (λ m k. eqb-true (places l m) 1 (stands-once l m (s m k) (u m k))) ∙ sym e) i h)
 
 part-below : (l : List ℕ) (n a w : ℕ) → EachBelow n l → EachBelow n (part l a w)
-unfolding part
-part-below l n a w b i h =
-    let k : i < min w (length l - a) = simp (length-take, length-drop) at h in
-    rw (getD-part l a w i 0 (omega arith)) (b (a + i) (omega arith))
+part-below l n a w b i h = let k = within-part l a w i h in rw (getD-part l a w i 0 (k .0)) (b (a + i) (k .1))
 
 pub below-follows : (x : Index) → length (x .members) ≡ x .n → ((m : ℕ) → m < x .n → StandsIn (x .members) m)
     → ((m : ℕ) → m < x .n → (p q : ℕ) → HoldsAt (x .members) m p → HoldsAt (x .members) m q → p ≡ q) → (c : ℕ) → EachBelow (x .n) (listAt x c)

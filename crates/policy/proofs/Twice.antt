@@ -1,18 +1,18 @@
 -- On an index that passes the whole check no row comes twice.
-use Prim.Native.Nat.{ℕ, zero, suc, _+_, _-_, _≤_, _<_, min}
+use Prim.Native.Nat.{ℕ, zero, suc, _+_, _-_, _≤_, _<_}
 use mathlib.Core.Path.{_≡_, refl, sym, _∙_, ap}
 use mathlib.Core.Bool.{Bool, true, false, cond, not}
 use mathlib.Core.List.{List, [], _∷_, _++_, map, map-append}
 use native.Mathlib.Decide.{decLt}
 use native.Mathlib.Omega.{arith}
-use lib.ListN.{length, getD, take, length-take, length-drop, length-map, List·getD-append}
+use lib.ListN.{length, getD, take, length-take, length-map, List·getD-append}
 use lib.Seq.{getD-take}
 use lib.Dec.{eqb}
 use lib.Ieee.{Float}
-use Rattle.lists.specs.Lists.{part, tab, fill, join}
+use Rattle.lists.specs.Lists.{tab, fill, join}
 use Rattle.lists.proofs.Tables.{last-or, map-tab, length-tab, getD-tab}
 use Rattle.lists.proofs.TakeDrop.{map-take}
-use Rattle.lists.proofs.Parts.{getD-part}
+use Rattle.lists.proofs.Parts.{getD-part, within-part}
 use Rattle.lists.proofs.Rising.{Rises, rises-keep}
 use Rattle.neighbor.specs.declared.Candidate.{Candidate}
 use Rattle.neighbor.specs.Neighbor.{comesBefore, insertBy, insertAll, ordered, firstOf, rowOf, blankRow}
@@ -146,16 +146,11 @@ module _ (x : Index) (passes : Passes x) where
   -- its place among the members lies between the starts of its cell and of the next
   place-of : (c m : ℕ) → StandsIn (listAt x c) m
       → (p : ℕ) × (startOf (x .starts) c ≤ p) × (p < startOf (x .starts) (suc c)) × HoldsAt (x .members) m p
-  unfolding part
   place-of c m s =
       let a = startOf (x .starts) c in
       let w = startOf (x .starts) (suc c) - a in
-      let k : s .0 < min w (length (x .members) - a) = simp (length-take, length-drop) at (s .1 .within) in (
-        a + s .0,
-        omega arith,
-        omega arith,
-        record { within = omega arith; held = sym (getD-part (x .members) a w (s .0) 0 (omega arith)) ∙ s .1 .held },
-      )
+      let k = within-part (x .members) a w (s .0) (s .1 .within) in
+      (a + s .0, omega arith, omega arith, record { within = k .1; held = sym (getD-part (x .members) a w (s .0) 0 (k .0)) ∙ s .1 .held })
 
   one-cell : (m c d : ℕ) → StandsIn (listAt x c) m → StandsIn (listAt x d) m → c ≡ d
   one-cell m c d s t =
