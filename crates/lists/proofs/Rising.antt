@@ -4,24 +4,20 @@ use mathlib.Core.Path.{_≡_}
 use mathlib.Core.Bool.{Bool, true, false, cond}
 use mathlib.Core.List.{List, [], _∷_}
 use native.Mathlib.Omega.{arith}
-use borrow.Author.Tests.{lt-ltb, ltb-true}
 use lib.ListN.{length, getD}
-use lib.Dec.{ltb}
-use Rattle.lists.specs.Tests.{every, keep, rising}
-use Rattle.lists.proofs.Tests.{every-true, every-of}
+use Rattle.lists.specs.Tests.{keep, rising}
+use Rattle.lists.proofs.Tests.{every-below, below-every}
 
 -- ---- each element is below the next
 
 module _ (l : List ℕ) where
   pub rising-true : rising l ≡ true → (i : ℕ) → suc i < length l → getD l i 0 < getD l (suc i) 0
   unfolding rising
-  rising-true e i h =
-      ltb-true (getD l i 0) (getD l (suc i) 0) (every-true (λ (i : ℕ). ltb (getD l i 0) (getD l (suc i) 0)) (length l - 1) e i (omega arith))
+  rising-true e i h = every-below (λ (i : ℕ). getD l i 0) (λ (i : ℕ). getD l (suc i) 0) (length l - 1) e i (omega arith)
 
   pub rising-of : ((i : ℕ) → suc i < length l → getD l i 0 < getD l (suc i) 0) → rising l ≡ true
   unfolding rising
-  rising-of r =
-      every-of (λ (i : ℕ). ltb (getD l i 0) (getD l (suc i) 0)) (length l - 1) (λ i h. lt-ltb (getD l i 0) (getD l (suc i) 0) (r i (omega arith)))
+  rising-of r = below-every (λ (i : ℕ). getD l i 0) (λ (i : ℕ). getD l (suc i) 0) (length l - 1) (λ i h. r i (omega arith))
 
 -- ---- and the first is at least b
 

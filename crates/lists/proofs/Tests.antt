@@ -60,6 +60,14 @@ unfolding every
 every-of f zero h = refl
 every-of f (suc n) h = and-both (every-of f n (λ i k. h i (omega arith))) (h n (omega arith))
 
+-- every f i is below g i
+module _ (f g : ℕ → ℕ) (n : ℕ) where
+  pub every-below : every (λ (i : ℕ). ltb (f i) (g i)) n ≡ true → (i : ℕ) → i < n → f i < g i
+  every-below e i h = ltb-true (f i) (g i) (every-true (λ (i : ℕ). ltb (f i) (g i)) n e i h)
+
+  pub below-every : ((i : ℕ) → i < n → f i < g i) → every (λ (i : ℕ). ltb (f i) (g i)) n ≡ true
+  below-every h = every-of (λ (i : ℕ). ltb (f i) (g i)) n (λ i k. lt-ltb (f i) (g i) (h i k))
+
 pub every-ext : (f g : ℕ → Bool) (n : ℕ) → ((i : ℕ) → i < n → f i ≡ g i) → every f n ≡ every g n
 unfolding every
 every-ext f g zero e = refl

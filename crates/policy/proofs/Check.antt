@@ -5,7 +5,7 @@ use mathlib.Core.Logic.{_↔_}
 use mathlib.Core.Bool.{Bool, true, false, cond}
 use mathlib.Core.List.{List, [], _∷_, _++_}
 use native.Mathlib.Omega.{arith}
-use borrow.Author.Tests.{ltb-true, ltb-false, lt-ltb, le-ltb, leb-true, le-leb, eqb-true, eq-eqb, ne-eqb, not-false}
+use borrow.Author.Tests.{ltb-true, ltb-false, le-ltb, leb-true, le-leb, eqb-true, eq-eqb, ne-eqb, not-false}
 use lib.ListN.{length, getD}
 use lib.Dec.{ltb, leb, eqb}
 use Rattle.lists.specs.Lists.{part}
@@ -13,7 +13,7 @@ use Rattle.lists.specs.Tests.{anyOf, every, rising}
 use Rattle.lists.proofs.Parts.{getD-part, within-part}
 use Rattle.lists.proofs.Counting.{counted, count-found, count-once, once-count, count-full, count-below}
 use Rattle.lists.proofs.Rising.{rising-true, rising-of}
-use Rattle.lists.proofs.Tests.{none, and-l, and-r, and-both, every-true, every-of}
+use Rattle.lists.proofs.Tests.{none, and-l, and-r, and-both, every-true, every-of, every-below, below-every}
 use Rattle.pq_params.specs.Bounds.{tooManyRows, centersOf}
 use Rattle.pq_params.proofs.Bounds.{range-bounds, plain-bounds, celled-bounds}
 use Rattle.pq_idx.specs.Refusals.{notLong}
@@ -63,11 +63,11 @@ stands-alike k l m e =
 module _ (n : ℕ) (l : List ℕ) where
   pub list-sound : EachBelow n l → EachBelowNext l → listSound n l ≡ true
   unfolding listSound
-  list-sound b r = and-both (every-of (λ (i : ℕ). ltb (getD l i 0) n) (length l) (λ i h. lt-ltb (getD l i 0) n (b i h))) (rising-of l r)
+  list-sound b r = and-both (below-every (λ (i : ℕ). getD l i 0) (λ (i : ℕ). n) (length l) b) (rising-of l r)
 
   pub list-below : listSound n l ≡ true → EachBelow n l
   unfolding listSound
-  list-below e i h = ltb-true (getD l i 0) n (every-true (λ (i : ℕ). ltb (getD l i 0) n) (length l) (and-l _ (rising l) e) i h)
+  list-below e = every-below (λ (i : ℕ). getD l i 0) (λ (i : ℕ). n) (length l) (and-l _ (rising l) e)
 
   pub list-rises : listSound n l ≡ true → EachBelowNext l
   unfolding listSound
@@ -102,8 +102,7 @@ module _ (x : Index) where
       (every-of (λ (c : ℕ). listSound (x .n) (listAt x c)) (x .cells) (λ c h. list-sound (x .n) (listAt x c) (o .below c h) (o .rises c h))))
       (every-of (λ (m : ℕ). eqb (places (x .members) m) 1) (x .n) (λ m h. stands-once (x .members) m (o .stands m h) (o .once m h))))
       (every-of (codesBelow (x .codes) (x .nsub) (x .bits)) (x .n)
-      (λ m h. every-of (λ (s : ℕ). ltb (codeAt (x .codes) (x .nsub) m s) (centersOf (x .bits))) (x .nsub)
-      (λ s k. lt-ltb (codeAt (x .codes) (x .nsub) m s) (centersOf (x .bits)) (o .codes-below m h s k))))
+      (λ m h. below-every (codeAt (x .codes) (x .nsub) m) (λ (s : ℕ). centersOf (x .bits)) (x .nsub) (o .codes-below m h)))
 
   order-of : indexSound x ≡ true → InOrder x
   unfolding startsSound
@@ -118,8 +117,7 @@ module _ (x : Index) where
         once = λ m h. once-only (x .members) m (rows-once e m h);
         rises = λ c h. list-rises (x .n) (listAt x c) (lists-sound e c h);
         below = λ c h. list-below (x .n) (listAt x c) (lists-sound e c h);
-        codes-below = λ m h s k. ltb-true (codeAt (x .codes) (x .nsub) m s) (centersOf (x .bits))
-            (every-true (λ (s : ℕ). ltb (codeAt (x .codes) (x .nsub) m s) (centersOf (x .bits))) (x .nsub) (codes-sound e m h) s k);
+        codes-below = λ m h. every-below (codeAt (x .codes) (x .nsub) m) (λ (s : ℕ). centersOf (x .bits)) (x .nsub) (codes-sound e m h);
       }
 
   pub check-exact : (indexSound x ≡ true) ↔ InOrder x
