@@ -10,8 +10,8 @@ use Rattle.policy.specs.Check.{HoldsAt, StandsIn}
 
 -- ---- rows that stand in a list
 
-pub in-head : (x : ℕ) (l : List ℕ) → StandsIn (x ∷ l) x
-in-head x l = (0, record { within = omega arith; held = refl })
+pub in-head : {x m : ℕ} (l : List ℕ) → x ≡ m → StandsIn (x ∷ l) m
+in-head l e = (0, record { within = omega arith; held = e })
 
 pub in-tail : (x : ℕ) (l : List ℕ) (m : ℕ) → StandsIn l m → StandsIn (x ∷ l) m
 in-tail x l m s = (suc (s .0), record { within = omega arith; held = s .1 .held })
@@ -38,11 +38,11 @@ past-head x k l r f m s =
 pub same-rising : (k l : List ℕ) (b c : ℕ) → Rises b k → Rises c l
     → ((m : ℕ) → StandsIn k m → StandsIn l m) → ((m : ℕ) → StandsIn l m → StandsIn k m) → k ≡ l
 same-rising [] [] b c r q f g = refl
-same-rising [] (y ∷ l) b c r q f g = absurd (not-in-nil (g y (in-head y l) .1))
-same-rising (x ∷ k) [] b c r q f g = absurd (not-in-nil (f x (in-head x k) .1))
+same-rising [] (y ∷ l) b c r q f g = absurd (not-in-nil (g y (in-head l refl) .1))
+same-rising (x ∷ k) [] b c r q f g = absurd (not-in-nil (f x (in-head k refl) .1))
 same-rising (x ∷ k) (y ∷ l) b c r q f g =
-    let y≤x = rises-from (y ∷ l) y x _ (omega arith, q .1) (f x (in-head x k) .1) in
-    let x≤y = rises-from (x ∷ k) x y _ (omega arith, r .1) (g y (in-head y l) .1) in
+    let y≤x = rises-from (y ∷ l) y x _ (omega arith, q .1) (f x (in-head k refl) .1) in
+    let x≤y = rises-from (x ∷ k) x y _ (omega arith, r .1) (g y (in-head l refl) .1) in
     let e : y ≡ x = omega arith in
     ap₂ (λ (z : ℕ) (t : List ℕ). z ∷ t) (sym e)
     (same-rising k l (suc x) (suc y) (r .1) (q .1) (past-head x k l (r .1) (rw e at f)) (past-head x l k (rw e at (q .1)) (rw e at g)))
@@ -57,7 +57,7 @@ module _ (f : ℕ → Bool) where
   keep-in (x ∷ l) m e s = go (f x) refl (keep-in l m e)
     where
       go : (t : Bool) → f x ≡ t → (StandsIn l m → StandsIn (keep f l) m) → StandsIn (cond t (x ∷ keep f l) (keep f l)) m
-      go true p h = in-cases x l m (s .0) (s .1) (λ q. rw q (in-head m (keep f l))) (λ u. in-tail x (keep f l) m (h u))
+      go true p h = in-cases x l m (s .0) (s .1) (in-head (keep f l)) (λ u. in-tail x (keep f l) m (h u))
       go false p h = in-cases x l m (s .0) (s .1) (λ q. absurd (true≢false (sym e ∙ ap f (sym q) ∙ p))) h
 
   pub keep-from : (l : List ℕ) (m : ℕ) → StandsIn (keep f l) m → StandsIn l m × (f m ≡ true)
@@ -68,7 +68,7 @@ module _ (f : ℕ → Bool) where
       go : (t : Bool) → f x ≡ t → (StandsIn (keep f l) m → StandsIn l m × (f m ≡ true))
           → StandsIn (cond t (x ∷ keep f l) (keep f l)) m → StandsIn (x ∷ l) m × (f m ≡ true)
       go true p h u = in-cases x (keep f l) m (u .0) (u .1)
-          (λ q. (rw q (in-head m l), ap f (sym q) ∙ p))
+          (λ q. (in-head l q, ap f (sym q) ∙ p))
           (λ v. (in-tail x l m (h v .0), h v .1))
       go false p h u = (in-tail x l m (h u .0), h u .1)
 

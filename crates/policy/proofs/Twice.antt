@@ -62,12 +62,12 @@ rises-distinct (x ∷ l) b r = (λ s. omega (arith, rises-from l (suc x) x (s .0
 in-append {ℓ} : {B : Type ℓ} (k l : List ℕ) (m p : ℕ) → HoldsAt (k ++ l) m p → (StandsIn k m → B) → (StandsIn l m → B) → B
 in-append [] l m p h f g = g (p, h)
 in-append (x ∷ k) l m p h f g =
-    in-cases x (k ++ l) m p h (λ e. f (0, record { within = omega arith; held = e })) (λ s. in-append k l m (s .0) (s .1) (λ t. f (in-tail x k m t)) g)
+    in-cases x (k ++ l) m p h (λ e. f (in-head k e)) (λ s. in-append k l m (s .0) (s .1) (λ t. f (in-tail x k m t)) g)
 
 distinct-append : (k l : List ℕ) → Distinct k → Distinct l → ((m : ℕ) → StandsIn k m → StandsIn l m → ⊥) → Distinct (k ++ l)
 distinct-append [] l d e u = e
 distinct-append (x ∷ k) l d e u =
-    (λ s. in-append k l x (s .0) (s .1) (d .0) (u x (in-head x k)), distinct-append k l (d .1) e (λ m s. u m (in-tail x k m s)))
+    (λ s. in-append k l x (s .0) (s .1) (d .0) (u x (in-head k refl)), distinct-append k l (d .1) e (λ m s. u m (in-tail x k m s)))
 
 -- ---- the rows of candidates
 
@@ -83,7 +83,7 @@ module _ (b : Candidate → Candidate → Bool) where
       go : (t : Bool) → HoldsAt (rowsOf (cond t (c ∷ d ∷ l) (d ∷ insertBy b c l))) m p
           → ((q : ℕ) → HoldsAt (rowsOf (insertBy b c l)) m q → (StandsIn (rowsOf l) m → B) → B) → B
       go true h r = in-cases (c .row) (rowsOf (d ∷ l)) m p h f g
-      go false h r = in-cases (d .row) (rowsOf (insertBy b c l)) m p h (λ e. g (0, record { within = omega arith; held = e }))
+      go false h r = in-cases (d .row) (rowsOf (insertBy b c l)) m p h (λ e. g (in-head (rowsOf l) e))
           (λ s. r (s .0) (s .1) (λ t. g (in-tail (d .row) (rowsOf l) m t)))
 
   distinct-insert : (c : Candidate) (l : List Candidate) → Distinct (rowsOf l) → (StandsIn (rowsOf l) (c .row) → ⊥) → Distinct (rowsOf (insertBy b c l))
@@ -93,14 +93,14 @@ module _ (b : Candidate → Candidate → Bool) where
     where
       go : (t : Bool) → Distinct (rowsOf (insertBy b c l)) → Distinct (rowsOf (cond t (c ∷ d ∷ l) (d ∷ insertBy b c l)))
       go true r = (u, e)
-      go false r = (λ s. in-insert c l (d .row) (s .0) (s .1) (λ q. u (0, record { within = omega arith; held = sym q })) (e .0), r)
+      go false r = (λ s. in-insert c l (d .row) (s .0) (s .1) (λ q. u (in-head (rowsOf l) (sym q))) (e .0), r)
 
   distinct-all : (l cs : List Candidate) → Distinct (rowsOf l) → Distinct (rowsOf cs) → ((m : ℕ) → StandsIn (rowsOf l) m → StandsIn (rowsOf cs) m → ⊥)
       → Distinct (rowsOf (insertAll b l cs))
   unfolding insertAll
   distinct-all l [] d e u = d
   distinct-all l (c ∷ cs) d e u =
-      distinct-all (insertBy b c l) cs (distinct-insert c l d (λ s. u (c .row) s (in-head (c .row) (rowsOf cs)))) (e .1)
+      distinct-all (insertBy b c l) cs (distinct-insert c l d (λ s. u (c .row) s (in-head (rowsOf cs) refl))) (e .1)
       (λ m s t. in-insert c l m (s .0) (s .1) (λ q. e .0 (rw q t)) (λ v. u m v (in-tail (c .row) (rowsOf cs) m t)))
 
 distinct-ordered : (cs : List Candidate) → Distinct (rowsOf cs) → Distinct (rowsOf (ordered cs))
