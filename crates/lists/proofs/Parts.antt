@@ -1,11 +1,10 @@
 -- Laws on a part of a list, and on a list with a part put in.
 use Prim.Native.Nat.{ℕ, suc, _+_, _-_, _≤_, _<_, min}
-use mathlib.Core.Path.{_≡_, refl, sym, _∙_, ap}
-use mathlib.Core.List.{List, [], _∷_, _++_, append-assoc, append-nil}
-use native.Mathlib.Nat.{add-sub-cancel-left, add-zero}
+use mathlib.Core.Path.{_≡_, sym, _∙_}
+use mathlib.Core.List.{List, [], _∷_, _++_, append-assoc}
 use native.Mathlib.Omega.{arith}
-use lib.ListN.{length, take, drop, set, getD, length-append, length-take, length-drop, drop-of-length-le, List·getD-append, take-append-drop}
-use lib.Seq.{length-take-le, take-append-le, drop-append-le, take-at, drop-at, take-all, drop-drop, getD-take, getD-drop, getD-append-add, drop-cons, set-at}
+use lib.ListN.{length, take, drop, set, getD, length-append, length-take, length-drop, List·getD-append, take-append-drop}
+use lib.Seq.{length-take-le, take-append-le, drop-append-le, take-at, drop-at, take-all, getD-take, getD-drop, getD-append-add, drop-cons, set-at}
 use Rattle.lists.specs.Lists.{part, putPart}
 
 module _ {ℓ} {A : Type ℓ} where

@@ -1,14 +1,14 @@
 -- Laws on tests over the numbers below n, and over lists of numbers.
-use Prim.Native.Nat.{ℕ, zero, suc, _+_, _-_, _≤_, _<_}
+use Prim.Native.Nat.{ℕ, zero, suc, _≤_, _<_}
 use mathlib.Core.Path.{_≡_, refl, sym, _∙_, ap, ap₂}
 use mathlib.Core.Bool.{Bool, true, false, cond, _&&_, _||_, and-false, true≢false, false≢true}
 use mathlib.Core.List.{List, [], _∷_, _++_, append-nil}
 use native.Mathlib.Decide.{decLt}
 use native.Mathlib.Omega.{arith}
-use borrow.Author.Tests.{lt-ltb, le-ltb, ltb-true, ltb-false}
-use lib.ListN.{length, getD}
+use borrow.Author.Tests.{lt-ltb, le-ltb, ltb-true}
+use lib.ListN.{getD}
 use lib.Dec.{ltb}
-use Rattle.lists.specs.Tests.{anyFrom, anyOf, every, first, count, keep, rising}
+use Rattle.lists.specs.Tests.{anyFrom, anyOf, every, first, count, keep}
 use Rattle.lists.proofs.Tables.{last-or}
 
 -- ---- tests joined by `|`

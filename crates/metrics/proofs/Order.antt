@@ -1,7 +1,7 @@
 -- The order of finite floats: `lt` and `eq` by numbers over a common denominator. -0.0 and +0.0 are equals in it.
 use Prim.Native.Nat.{ℕ, zero, suc, _+_, _*_, _≤_, _<_}
-use mathlib.Core.Path.{_≡_, refl, sym, _∙_}
-use mathlib.Core.Bool.{Bool, true, false, _&&_, and-true, and-false, false≢true}
+use mathlib.Core.Path.{_≡_, sym, _∙_}
+use mathlib.Core.Bool.{true, false, _&&_, and-true, and-false, false≢true}
 use native.Mathlib.Nat.{add-zero, zero-add, add-comm, zero-mul, mul-le-mul-right, le-of-mul-le-mul-right}
 use native.Mathlib.Decide.{decLe, ℕ-discrete}
 use native.Mathlib.Omega.{arith}
