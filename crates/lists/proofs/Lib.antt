@@ -1,4 +1,8 @@
 pub mod Tables
+pub mod TakeDrop
 pub mod Parts
 pub mod Joins
 pub mod Tests
+pub mod Counting
+pub mod Rising
+pub mod Examples

@@ -1,11 +1,10 @@
 -- Laws on a part of a list, and on a list with a part put in.
-use Prim.Native.Nat.{ℕ, zero, suc, _+_, _-_, _≤_, _<_}
-use mathlib.Core.Path.{_≡_, refl, sym, _∙_, ap}
-use mathlib.Core.List.{List, [], _∷_, _++_, append-assoc, append-nil}
-use native.Mathlib.Nat.{add-sub-cancel-left, add-zero}
+use Prim.Native.Nat.{ℕ, suc, _+_, _-_, _≤_, _<_, min}
+use mathlib.Core.Path.{_≡_, sym, _∙_}
+use mathlib.Core.List.{List, [], _∷_, _++_, append-assoc}
 use native.Mathlib.Omega.{arith}
-use lib.ListN.{length, take, drop, set, getD, length-append, length-take, length-drop, drop-of-length-le, List·getD-append, take-append-drop}
-use lib.Seq.{take-append-le, drop-append-le, take-at, drop-at, take-all, drop-drop, getD-take, getD-drop, getD-append-add, drop-cons, set-at}
+use lib.ListN.{length, take, drop, set, getD, length-append, length-take, length-drop, List·getD-append, take-append-drop}
+use lib.Seq.{length-take-le, take-append-le, drop-append-le, take-at, drop-at, take-all, getD-take, getD-drop, getD-append-add, drop-cons, set-at}
 use Rattle.lists.specs.Lists.{part, putPart}
 
 module _ {ℓ} {A : Type ℓ} where
@@ -16,6 +15,11 @@ module _ {ℓ} {A : Type ℓ} where
   pub getD-part : (s : List A) (a w j : ℕ) (d : A) → j < w → getD (part s a w) j d ≡ getD s (a + j) d
   unfolding part
   getD-part s a w j d h = getD-take w (drop a s) j d h ∙ getD-drop a s j d
+
+  -- a place of the part is one of the list
+  pub within-part : (s : List A) (a w j : ℕ) → j < length (part s a w) → (j < w) × (a + j < length s)
+  unfolding part
+  within-part s a w j h = let k : j < min w (length s - a) = simp (length-take, length-drop) at h in omega arith
 
   -- the whole of a list
   pub part-all : (s : List A) (w : ℕ) → length s ≡ w → part s 0 w ≡ s
@@ -31,20 +35,20 @@ module _ {ℓ} {A : Type ℓ} where
   pub getD-putPart-in : (s p : List A) (a w j : ℕ) (d : A) → a ≤ length s → length p ≡ w → j < w → getD (putPart s a w p) (a + j) d ≡ getD p j d
   unfolding putPart
   getD-putPart-in s p a w j d h e k =
-      let l : length (take a s) ≡ a = simp length-take (omega arith) in
+      let l = length-take-le a s h in
       let q = getD-append-add (take a s) (p ++ drop w (drop a s)) j d in
       rw l at q ∙ List·getD-append p (drop w (drop a s)) d j (omega arith)
 
   pub getD-putPart-before : (s p : List A) (a w x : ℕ) (d : A) → a ≤ length s → x < a → getD (putPart s a w p) x d ≡ getD s x d
   unfolding putPart
   getD-putPart-before s p a w x d h k =
-      let l : length (take a s) ≡ a = simp length-take (omega arith) in
+      let l = length-take-le a s h in
       List·getD-append (take a s) (p ++ drop w (drop a s)) d x (omega arith) ∙ getD-take a s x d k
 
   past : (s p : List A) (a w y : ℕ) (d : A) → a ≤ length s → length p ≡ w → getD (putPart s a w p) (a + (w + y)) d ≡ getD s (a + (w + y)) d
   unfolding putPart
   past s p a w y d h e =
-      let l : length (take a s) ≡ a = simp length-take (omega arith) in
+      let l = length-take-le a s h in
       let q = getD-append-add (take a s) (p ++ drop w (drop a s)) (w + y) d in
       let r = getD-append-add p (drop w (drop a s)) y d in
       rw l at q ∙ rw e at r ∙ getD-drop w (drop a s) y d ∙ getD-drop a s (w + y) d

@@ -87,6 +87,11 @@ unfolding tab
 map-tab f g zero = refl
 map-tab {B = B} f g (suc n) = map-append f (tab g n) (g n ∷ []) ∙ ap (λ (t : List B). t ++ (f (g n) ∷ [])) (map-tab f g n)
 
+-- two maps that agree at each element; d stands past the list's end
+pub map-ext {ℓ κ} : {A : Type ℓ} {B : Type κ} (d : A) (f g : A → B) (l : List A) → ((i : ℕ) → i < length l → f (getD l i d) ≡ g (getD l i d)) → map f l ≡ map g l
+map-ext d f g [] e = refl
+map-ext {B = B} d f g (x ∷ l) e = ap₂ (λ (y : B) (t : List B). y ∷ t) (e 0 (omega arith)) (map-ext d f g l (λ i h. e (suc i) (omega arith)))
+
 -- the first w places of a fresh array
 pub take-fresh {ℓ} : {A : Type ℓ} (v : A) (w n : ℕ) → w ≤ n → take w (replicate n v) ≡ fill v w
 take-fresh v w n h =

@@ -1,14 +1,14 @@
 -- Laws on tests over the numbers below n, and over lists of numbers.
-use Prim.Native.Nat.{ℕ, zero, suc, _+_, _-_, _≤_, _<_}
+use Prim.Native.Nat.{ℕ, zero, suc, _≤_, _<_}
 use mathlib.Core.Path.{_≡_, refl, sym, _∙_, ap, ap₂}
-use mathlib.Core.Bool.{Bool, true, false, cond, not, _&&_, _||_, true≢false, false≢true}
+use mathlib.Core.Bool.{Bool, true, false, cond, _&&_, _||_, and-false, true≢false, false≢true}
 use mathlib.Core.List.{List, [], _∷_, _++_, append-nil}
 use native.Mathlib.Decide.{decLt}
 use native.Mathlib.Omega.{arith}
-use borrow.Author.Tests.{lt-ltb, le-ltb, ltb-true, ltb-false}
-use lib.ListN.{length, getD}
+use borrow.Author.Tests.{lt-ltb, le-ltb, ltb-true}
+use lib.ListN.{getD}
 use lib.Dec.{ltb}
-use Rattle.lists.specs.Tests.{anyFrom, anyOf, every, first, count, keep, rising}
+use Rattle.lists.specs.Tests.{anyFrom, anyOf, every, first, count, keep}
 use Rattle.lists.proofs.Tables.{last-or}
 
 -- ---- tests joined by `|`
@@ -60,14 +60,18 @@ unfolding every
 every-of f zero h = refl
 every-of f (suc n) h = and-both (every-of f n (λ i k. h i (omega arith))) (h n (omega arith))
 
+-- every f i is below g i
+module _ (f g : ℕ → ℕ) (n : ℕ) where
+  pub every-below : every (λ (i : ℕ). ltb (f i) (g i)) n ≡ true → (i : ℕ) → i < n → f i < g i
+  every-below e i h = ltb-true (f i) (g i) (every-true (λ (i : ℕ). ltb (f i) (g i)) n e i h)
+
+  pub below-every : ((i : ℕ) → i < n → f i < g i) → every (λ (i : ℕ). ltb (f i) (g i)) n ≡ true
+  below-every h = every-of (λ (i : ℕ). ltb (f i) (g i)) n (λ i k. lt-ltb (f i) (g i) (h i k))
+
 pub every-ext : (f g : ℕ → Bool) (n : ℕ) → ((i : ℕ) → i < n → f i ≡ g i) → every f n ≡ every g n
 unfolding every
 every-ext f g zero e = refl
 every-ext f g (suc n) e = ap₂ _&&_ (every-ext f g n (λ i k. e i (omega arith))) (e n (omega arith))
-
-and-false : (a : Bool) → (a && false) ≡ false
-and-false true = refl
-and-false false = refl
 
 -- one at which f fails
 pub every-false : (f : ℕ → Bool) (n i : ℕ) → i < n → f i ≡ false → every f n ≡ false

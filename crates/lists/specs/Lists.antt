@@ -1,5 +1,5 @@
 -- Flat lent buffers: a part of a list, and lists given by their elements.
-use Prim.Native.Nat.{ℕ, zero, suc, _*_}
+use Prim.Native.Nat.{ℕ, zero, suc}
 use mathlib.Core.List.{List, [], _∷_, _++_}
 use lib.ListN.{take, drop, length}
 use mathlib.Core.Path.{_≡_}

@@ -1,13 +1,13 @@
 -- Laws on sums, distances and marks.
 use Prim.Native.Nat.{ℕ, zero, suc, _*_, _<_}
-use mathlib.Core.Path.{_≡_, refl, sym, _∙_, ap, ap₂}
+use mathlib.Core.Path.{_≡_, refl, sym, ap₂}
 use mathlib.Core.Bool.{Bool, true, false}
 use native.Mathlib.Nat.{le-refl, sub-self, zero-mul, mul-pos}
 use native.Mathlib.Omega.{arith}
 use borrow.Author.Tests.{le-ltb}
 use lib.Dec.{lit<}
 use lib.IntN.{ℤ}
-use lib.Ieee.{Float, nan, inf, fin, binary32, add, sub, mul, eq, neg, ofBits, round, up, down}
+use lib.Ieee.{Float, nan, inf, fin, binary32, add, sub, eq, neg, ofBits, round, up, down}
 use lib.Ieee.Fits.{down-pos}
 use lib.Ieee.Scale.{finite, round-same}
 use Rattle.metrics.specs.Distance.{sumTo, termAt, squared, worked}

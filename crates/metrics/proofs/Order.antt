@@ -1,8 +1,8 @@
 -- The order of finite floats: `lt` and `eq` by numbers over a common denominator. -0.0 and +0.0 are equals in it.
 use Prim.Native.Nat.{ℕ, zero, suc, _+_, _*_, _≤_, _<_}
-use mathlib.Core.Path.{_≡_, refl, sym, _∙_}
-use mathlib.Core.Bool.{Bool, true, false, _&&_, and-true, and-false, false≢true}
-use native.Mathlib.Nat.{add-zero, zero-add, add-comm, zero-mul, add-mul, mul-assoc, mul-comm, mul-left-comm, mul-le-mul-right, le-of-mul-le-mul-right}
+use mathlib.Core.Path.{_≡_, sym, _∙_}
+use mathlib.Core.Bool.{true, false, _&&_, and-true, and-false, false≢true}
+use native.Mathlib.Nat.{add-zero, zero-add, add-comm, zero-mul, mul-le-mul-right, le-of-mul-le-mul-right}
 use native.Mathlib.Decide.{decLe, ℕ-discrete}
 use native.Mathlib.Omega.{arith}
 use borrow.Author.Tests.{lt-ltb, le-ltb, ltb-true, ltb-false, eq-eqb, ne-eqb}
@@ -69,9 +69,7 @@ eq-is (fin true m e) (fin true n d) f g = simp (zero-mul, zero-add) (and-true _ 
 -- p / x − n / x ≤ q / y − m / y ≤ r / z − l / z, by cross products
 cross-le : (p n x q m y r l z : ℕ) → 0 < y → p * y + m * x ≤ q * x + n * y → q * z + l * y ≤ r * y + m * z → p * z + l * x ≤ r * x + n * z
 cross-le p n x q m y r l z Y h k =
-    let a = simp (add-mul, mul-assoc, mul-comm) at (mul-le-mul-right z h) in
-    let b = simp (add-mul, mul-assoc, mul-comm, mul-left-comm) at (mul-le-mul-right x k) in
-    let c : (p * z + l * x) * y ≤ (r * x + n * z) * y = simp (add-mul, mul-assoc, mul-comm) (omega arith) in
+    let c : (p * z + l * x) * y ≤ (r * x + n * z) * y = omega (arith, mul-le-mul-right z h, mul-le-mul-right x k) in
     le-of-mul-le-mul-right c Y
 
 pub side-trans : (x y z : Float) → side x y ≤ side y x → side y z ≤ side z y → side x z ≤ side z x

@@ -1,4 +1,3 @@
-pub mod Tables
 pub mod Insertion
 pub mod Sorted
 pub mod Order

@@ -1,18 +1,21 @@
 -- The whole check's definition says what document 01 says.
-use Prim.Native.Nat.{ℕ, suc, _+_, _-_, _<_, min}
+use Prim.Native.Nat.{ℕ, suc, _+_, _<_}
 use mathlib.Core.Path.{_≡_, refl, sym, _∙_}
 use mathlib.Core.Logic.{_↔_}
-use mathlib.Core.Bool.{Bool, true, false, cond, not}
+use mathlib.Core.Bool.{Bool, true, false, cond}
 use mathlib.Core.List.{List, [], _∷_, _++_}
 use native.Mathlib.Omega.{arith}
-use borrow.Author.Tests.{ltb-true, ltb-false, lt-ltb, le-ltb, leb-true, le-leb, eqb-true, eqb-false, eq-eqb, ne-eqb, not-false}
-use lib.ListN.{length, getD, length-take, length-drop}
+use borrow.Author.Tests.{ltb-true, ltb-false, le-ltb, leb-true, le-leb, eqb-true, eq-eqb, ne-eqb, not-false}
+use lib.ListN.{length, getD}
 use lib.Dec.{ltb, leb, eqb}
 use Rattle.lists.specs.Lists.{part}
 use Rattle.lists.specs.Tests.{anyOf, every, rising}
-use Rattle.lists.proofs.Parts.{getD-part}
-use Rattle.lists.proofs.Tests.{none, and-l, and-r, and-both, every-true, every-of}
+use Rattle.lists.proofs.Parts.{getD-part, within-part}
+use Rattle.lists.proofs.Counting.{counted, count-found, count-once, once-count, count-full, count-below}
+use Rattle.lists.proofs.Rising.{rising-true, rising-of}
+use Rattle.lists.proofs.Tests.{none, and-l, and-r, and-both, every-true, every-of, every-below, below-every}
 use Rattle.pq_params.specs.Bounds.{tooManyRows, centersOf}
+use Rattle.pq_params.proofs.Bounds.{range-bounds, plain-bounds, celled-bounds}
 use Rattle.pq_idx.specs.Refusals.{notLong}
 use Rattle.pq_idx.specs.Tables.{codeAt, codesBelow}
 use Rattle.ivfpq_idx.specs.declared.Checked.the-variants.{Accepted, Refused}
@@ -20,7 +23,6 @@ use Rattle.ivfpq_idx.specs.Lists.{startOf, startsSound, listSound}
 use Rattle.ivfpq_idx.specs.Check.{Index, indexSound, places}
 use Rattle.ivfpq_idx.specs.Outcomes.{CheckIn, CheckOut, indexTests, indexLengths, checkRefusal, checkOutcome}
 use Rattle.policy.specs.Check.{InBounds, RightLengths, HoldsAt, StandsIn, EachBelow, EachBelowNext, listAt, InOrder, Acceptable}
-use Rattle.policy.proofs.Counting.{counted, count-found, count-once, once-count, count-full, count-below}
 
 -- ---- a row stands once
 
@@ -60,21 +62,16 @@ stands-alike k l m e =
 
 module _ (n : ℕ) (l : List ℕ) where
   pub list-sound : EachBelow n l → EachBelowNext l → listSound n l ≡ true
-  unfolding listSound rising
-  list-sound b r =
-      and-both
-      (every-of (λ (i : ℕ). ltb (getD l i 0) n) (length l) (λ i h. lt-ltb (getD l i 0) n (b i h)))
-      (every-of (λ (i : ℕ). ltb (getD l i 0) (getD l (suc i) 0)) (length l - 1) (λ i h. lt-ltb (getD l i 0) (getD l (suc i) 0) (r i (omega arith))))
+  unfolding listSound
+  list-sound b r = and-both (below-every (λ (i : ℕ). getD l i 0) (λ (i : ℕ). n) (length l) b) (rising-of l r)
 
   pub list-below : listSound n l ≡ true → EachBelow n l
   unfolding listSound
-  list-below e i h = ltb-true (getD l i 0) n (every-true (λ (i : ℕ). ltb (getD l i 0) n) (length l) (and-l _ (rising l) e) i h)
+  list-below e = every-below (λ (i : ℕ). getD l i 0) (λ (i : ℕ). n) (length l) (and-l _ (rising l) e)
 
   pub list-rises : listSound n l ≡ true → EachBelowNext l
-  unfolding listSound rising
-  list-rises e i h =
-      ltb-true (getD l i 0) (getD l (suc i) 0)
-      (every-true (λ (i : ℕ). ltb (getD l i 0) (getD l (suc i) 0)) (length l - 1) (and-r (every (λ (i : ℕ). ltb (getD l i 0) n) (length l)) _ e) i (omega arith))
+  unfolding listSound
+  list-rises e = rising-true l (and-r (every (λ (i : ℕ). ltb (getD l i 0) n) (length l)) _ e)
 
 -- ---- the index is sound
 
@@ -105,8 +102,7 @@ module _ (x : Index) where
       (every-of (λ (c : ℕ). listSound (x .n) (listAt x c)) (x .cells) (λ c h. list-sound (x .n) (listAt x c) (o .below c h) (o .rises c h))))
       (every-of (λ (m : ℕ). eqb (places (x .members) m) 1) (x .n) (λ m h. stands-once (x .members) m (o .stands m h) (o .once m h))))
       (every-of (codesBelow (x .codes) (x .nsub) (x .bits)) (x .n)
-      (λ m h. every-of (λ (s : ℕ). ltb (codeAt (x .codes) (x .nsub) m s) (centersOf (x .bits))) (x .nsub)
-      (λ s k. lt-ltb (codeAt (x .codes) (x .nsub) m s) (centersOf (x .bits)) (o .codes-below m h s k))))
+      (λ m h. below-every (codeAt (x .codes) (x .nsub) m) (λ (s : ℕ). centersOf (x .bits)) (x .nsub) (o .codes-below m h)))
 
   order-of : indexSound x ≡ true → InOrder x
   unfolding startsSound
@@ -121,8 +117,7 @@ module _ (x : Index) where
         once = λ m h. once-only (x .members) m (rows-once e m h);
         rises = λ c h. list-rises (x .n) (listAt x c) (lists-sound e c h);
         below = λ c h. list-below (x .n) (listAt x c) (lists-sound e c h);
-        codes-below = λ m h s k. ltb-true (codeAt (x .codes) (x .nsub) m s) (centersOf (x .bits))
-            (every-true (λ (s : ℕ). ltb (codeAt (x .codes) (x .nsub) m s) (centersOf (x .bits))) (x .nsub) (codes-sound e m h) s k);
+        codes-below = λ m h. every-below (codeAt (x .codes) (x .nsub) m) (λ (s : ℕ). centersOf (x .bits)) (x .nsub) (codes-sound e m h);
       }
 
   pub check-exact : (indexSound x ≡ true) ↔ InOrder x
@@ -139,10 +134,7 @@ members-below l n e s u i h =
     (count-below (λ (p : ℕ). getD l p 0) (length l) n (λ m k. eqb-true (places l m) 1 (stands-once l m (s m k) (u m k))) ∙ sym e) i h)
 
 part-below : (l : List ℕ) (n a w : ℕ) → EachBelow n l → EachBelow n (part l a w)
-unfolding part
-part-below l n a w b i h =
-    let k : i < min w (length l - a) = simp (length-take, length-drop) at h in
-    rw (getD-part l a w i 0 (omega arith)) (b (a + i) (omega arith))
+part-below l n a w b i h = let k = within-part l a w i h in rw (getD-part l a w i 0 (k .0)) (b (a + i) (k .1))
 
 pub below-follows : (x : Index) → length (x .members) ≡ x .n → ((m : ℕ) → m < x .n → StandsIn (x .members) m)
     → ((m : ℕ) → m < x .n → (p q : ℕ) → HoldsAt (x .members) m p → HoldsAt (x .members) m q → p ≡ q) → (c : ℕ) → EachBelow (x .n) (listAt x c)
@@ -153,20 +145,10 @@ below-follows x e s u c = part-below (x .members) (x .n) _ _ (members-below (x .
 module _ (x : Index) where
   bounds-of : anyOf (indexTests x) ≡ false → tooManyRows (x .n) ≡ false → InBounds x
   bounds-of e f =
-      let t = none (indexTests x) e in
-      record {
-        d-least = omega (arith, eqb-false (x .d) 0 (t 0));
-        d-most = ltb-false 256 (x .d) (t 1);
-        nsub-least = omega (arith, eqb-false (x .nsub) 0 (t 2));
-        nsub-most = ltb-false 64 (x .nsub) (t 3);
-        nsub-of-d = ltb-false (x .d) (x .nsub) (t 4);
-        bits-most = ltb-false 8 (x .bits) (t 5);
-        cells-least = omega (arith, eqb-false (x .cells) 0 (t 6));
-        cells-most = ltb-false 1024 (x .cells) (t 7);
-        probes-least = omega (arith, eqb-false (x .probes) 0 (t 8));
-        probes-most = ltb-false (x .cells) (x .probes) (t 9);
-        n-most = ltb-false 100_001 (x .n) f;
-      }
+      let celled = celled-bounds (x .d) (x .nsub) (x .bits) (x .cells) (x .probes) e in
+      let plain = plain-bounds (x .d) (x .nsub) (x .bits) (celled .plain) in
+      let range = range-bounds (x .d) (x .nsub) (plain .range) in
+      omega (arith, ltb-false 100_001 (x .n) f)
 
   tests-of : InBounds x → anyOf (indexTests x) ≡ false
   tests-of b =

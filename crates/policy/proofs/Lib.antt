@@ -1,7 +1,7 @@
-pub mod Rising
-pub mod Counting
+pub mod Standing
 pub mod Check
 pub mod Policy
 pub mod PolicyExamples
+pub mod Examples
 pub mod Determinacy
 pub mod Twice

@@ -2,7 +2,7 @@
 use Prim.Native.Nat.{ℕ, suc, _≤_, _<_}
 use mathlib.Core.Path.{_≡_, refl, sym, _∙_, ap, ap₂, subst}
 use mathlib.Core.Bool.{Bool, true, cond, not, _&&_}
-use mathlib.Core.List.{List, [], _∷_, map}
+use mathlib.Core.List.{List, []}
 use native.Mathlib.Nat.{zero-sub}
 use native.Mathlib.Decide.{decLt}
 use native.Mathlib.Omega.{arith}
@@ -12,7 +12,9 @@ use lib.Ieee.{Float}
 use lib.Ieee.Scale.{finite}
 use Rattle.lists.specs.Lists.{part}
 use Rattle.lists.specs.Tests.{keep}
+use Rattle.lists.proofs.Tables.{map-ext}
 use Rattle.lists.proofs.Joins.{join-ext}
+use Rattle.lists.proofs.Rising.{Rises, rises-of}
 use Rattle.lists.proofs.Tests.{and-both, every-of, every-ext}
 use Rattle.metrics.proofs.Laws.{sum-ext}
 use Rattle.neighbor.specs.declared.Candidate.{Candidate}
@@ -24,12 +26,8 @@ use Rattle.ivfpq_idx.specs.Search.{Asked, coarseFinite, probed, probedAt, cellA
 use Rattle.ivfpq_idx.specs.Outcomes.{SearchIn, searchRefusal, searchWorked, searchOutcome}
 use Rattle.policy.specs.Check.{Passes, StandsIn, listAt, Acceptable}
 use Rattle.policy.specs.Policy.{InSight, SameCells, SameCodes, AlikeInSight}
-use Rattle.policy.proofs.Rising.{Rises, rises-of, keep-from, keep-same}
+use Rattle.policy.proofs.Standing.{keep-from, keep-same}
 use Rattle.policy.proofs.Check.{list-sound, list-below, list-rises, starts-sound, lists-sound, codes-sound, long, check-exact, accepts-exact}
-
-map-ext {ℓ} : {A : Type ℓ} (f g : ℕ → A) (l : List ℕ) → ((i : ℕ) → i < length l → f (getD l i 0) ≡ g (getD l i 0)) → map f l ≡ map g l
-map-ext f g [] e = refl
-map-ext {A = A} f g (x ∷ l) e = ap₂ (λ (y : A) (t : List A). y ∷ t) (e 0 (omega arith)) (map-ext f g l (λ i h. e (suc i) (omega arith)))
 
 -- ---- an index that passes the whole check
 
@@ -132,7 +130,7 @@ module _ (a : Asked) (x : Index) (first : Passes (a .index)) (second : Passes (r
   unfolding candidates
   same-candidates c =
       rw (← same-rows c)
-      (map-ext _ _ (visibleRows (cellAt a c)) (λ i h. ap (λ (t : Float). record { sum = t; row = shownRow a c i }) (same-sum c i h)))
+      (map-ext 0 _ _ (visibleRows (cellAt a c)) (λ i h. ap (λ (t : Float). record { sum = t; row = shownRow a c i }) (same-sum c i h)))
 
   same-worked : (l : Lent) → searchWorked a l ≡ searchWorked (relisted a x) l
   unfolding coarseFinite probed probedFinite allCandidates

@@ -1,17 +1,19 @@
 -- On an index that passes the whole check no row comes twice.
-use Prim.Native.Nat.{ℕ, zero, suc, _+_, _-_, _≤_, _<_, min}
+use Prim.Native.Nat.{ℕ, zero, suc, _+_, _-_, _≤_, _<_}
 use mathlib.Core.Path.{_≡_, refl, sym, _∙_, ap}
 use mathlib.Core.Bool.{Bool, true, false, cond, not}
 use mathlib.Core.List.{List, [], _∷_, _++_, map, map-append}
 use native.Mathlib.Decide.{decLt}
 use native.Mathlib.Omega.{arith}
-use lib.ListN.{length, getD, take, length-take, length-drop, length-map, List·getD-append}
+use lib.ListN.{length, getD, take, length-take, length-map, List·getD-append}
 use lib.Seq.{getD-take}
 use lib.Dec.{eqb}
 use lib.Ieee.{Float}
-use Rattle.lists.specs.Lists.{part, tab, fill, join}
+use Rattle.lists.specs.Lists.{tab, fill, join}
 use Rattle.lists.proofs.Tables.{last-or, map-tab, length-tab, getD-tab}
-use Rattle.lists.proofs.Parts.{getD-part}
+use Rattle.lists.proofs.TakeDrop.{map-take}
+use Rattle.lists.proofs.Parts.{getD-part, within-part}
+use Rattle.lists.proofs.Rising.{Rises, rises-keep}
 use Rattle.neighbor.specs.declared.Candidate.{Candidate}
 use Rattle.neighbor.specs.Neighbor.{comesBefore, insertBy, insertAll, ordered, firstOf, rowOf, blankRow}
 use Rattle.pq_idx.specs.Tables.{visible, visibleRows, sumAt, candidates}
@@ -22,7 +24,7 @@ use Rattle.ivfpq_idx.specs.Search.{Asked, cellAt, probed, probedAt, probedCell,
 use Rattle.ivfpq_idx.specs.Outcomes.{SearchIn, searchRefusal, searchOutcome}
 use Rattle.policy.specs.Check.{Passes, HoldsAt, StandsIn, listAt}
 use Rattle.policy.specs.Policy.{NoRowTwice}
-use Rattle.policy.proofs.Rising.{in-head, in-tail, in-cases, not-in-nil, Rises, rises-from, rises-keep, keep-from}
+use Rattle.policy.proofs.Standing.{in-head, in-tail, in-cases, not-in-nil, rises-from, keep-from}
 use Rattle.policy.proofs.Policy.{checked, no-cell, list-rising, row-below, undamaged}
 
 -- ---- lists in which no row stands twice
@@ -60,12 +62,12 @@ rises-distinct (x ∷ l) b r = (λ s. omega (arith, rises-from l (suc x) x (s .0
 in-append {ℓ} : {B : Type ℓ} (k l : List ℕ) (m p : ℕ) → HoldsAt (k ++ l) m p → (StandsIn k m → B) → (StandsIn l m → B) → B
 in-append [] l m p h f g = g (p, h)
 in-append (x ∷ k) l m p h f g =
-    in-cases x (k ++ l) m p h (λ e. f (0, record { within = omega arith; held = e })) (λ s. in-append k l m (s .0) (s .1) (λ t. f (in-tail x k m t)) g)
+    in-cases x (k ++ l) m p h (λ e. f (in-head k e)) (λ s. in-append k l m (s .0) (s .1) (λ t. f (in-tail x k m t)) g)
 
 distinct-append : (k l : List ℕ) → Distinct k → Distinct l → ((m : ℕ) → StandsIn k m → StandsIn l m → ⊥) → Distinct (k ++ l)
 distinct-append [] l d e u = e
 distinct-append (x ∷ k) l d e u =
-    (λ s. in-append k l x (s .0) (s .1) (d .0) (u x (in-head x k)), distinct-append k l (d .1) e (λ m s. u m (in-tail x k m s)))
+    (λ s. in-append k l x (s .0) (s .1) (d .0) (u x (in-head k refl)), distinct-append k l (d .1) e (λ m s. u m (in-tail x k m s)))
 
 -- ---- the rows of candidates
 
@@ -81,7 +83,7 @@ module _ (b : Candidate → Candidate → Bool) where
       go : (t : Bool) → HoldsAt (rowsOf (cond t (c ∷ d ∷ l) (d ∷ insertBy b c l))) m p
           → ((q : ℕ) → HoldsAt (rowsOf (insertBy b c l)) m q → (StandsIn (rowsOf l) m → B) → B) → B
       go true h r = in-cases (c .row) (rowsOf (d ∷ l)) m p h f g
-      go false h r = in-cases (d .row) (rowsOf (insertBy b c l)) m p h (λ e. g (0, record { within = omega arith; held = e }))
+      go false h r = in-cases (d .row) (rowsOf (insertBy b c l)) m p h (λ e. g (in-head (rowsOf l) e))
           (λ s. r (s .0) (s .1) (λ t. g (in-tail (d .row) (rowsOf l) m t)))
 
   distinct-insert : (c : Candidate) (l : List Candidate) → Distinct (rowsOf l) → (StandsIn (rowsOf l) (c .row) → ⊥) → Distinct (rowsOf (insertBy b c l))
@@ -91,14 +93,14 @@ module _ (b : Candidate → Candidate → Bool) where
     where
       go : (t : Bool) → Distinct (rowsOf (insertBy b c l)) → Distinct (rowsOf (cond t (c ∷ d ∷ l) (d ∷ insertBy b c l)))
       go true r = (u, e)
-      go false r = (λ s. in-insert c l (d .row) (s .0) (s .1) (λ q. u (0, record { within = omega arith; held = sym q })) (e .0), r)
+      go false r = (λ s. in-insert c l (d .row) (s .0) (s .1) (λ q. u (in-head (rowsOf l) (sym q))) (e .0), r)
 
   distinct-all : (l cs : List Candidate) → Distinct (rowsOf l) → Distinct (rowsOf cs) → ((m : ℕ) → StandsIn (rowsOf l) m → StandsIn (rowsOf cs) m → ⊥)
       → Distinct (rowsOf (insertAll b l cs))
   unfolding insertAll
   distinct-all l [] d e u = d
   distinct-all l (c ∷ cs) d e u =
-      distinct-all (insertBy b c l) cs (distinct-insert c l d (λ s. u (c .row) s (in-head (c .row) (rowsOf cs)))) (e .1)
+      distinct-all (insertBy b c l) cs (distinct-insert c l d (λ s. u (c .row) s (in-head (rowsOf cs) refl))) (e .1)
       (λ m s t. in-insert c l m (s .0) (s .1) (λ q. e .0 (rw q t)) (λ v. u m v (in-tail (c .row) (rowsOf cs) m t)))
 
 distinct-ordered : (cs : List Candidate) → Distinct (rowsOf cs) → Distinct (rowsOf (ordered cs))
@@ -144,16 +146,11 @@ module _ (x : Index) (passes : Passes x) where
   -- its place among the members lies between the starts of its cell and of the next
   place-of : (c m : ℕ) → StandsIn (listAt x c) m
       → (p : ℕ) × (startOf (x .starts) c ≤ p) × (p < startOf (x .starts) (suc c)) × HoldsAt (x .members) m p
-  unfolding part
   place-of c m s =
       let a = startOf (x .starts) c in
       let w = startOf (x .starts) (suc c) - a in
-      let k : s .0 < min w (length (x .members) - a) = simp (length-take, length-drop) at (s .1 .within) in (
-        a + s .0,
-        omega arith,
-        omega arith,
-        record { within = omega arith; held = sym (getD-part (x .members) a w (s .0) 0 (omega arith)) ∙ s .1 .held },
-      )
+      let k = within-part (x .members) a w (s .0) (s .1 .within) in
+      (a + s .0, omega arith, omega arith, record { within = k .1; held = sym (getD-part (x .members) a w (s .0) 0 (k .0)) ∙ s .1 .held })
 
   one-cell : (m c d : ℕ) → StandsIn (listAt x c) m → StandsIn (listAt x d) m → c ≡ d
   one-cell m c d s t =
@@ -203,11 +200,6 @@ module _ (a : Asked) (passes : Passes (a .index)) where
       (λ m p q h k s t. distinct-places (probed a) (probed-distinct a) p q h k
       (one-cell (a .index) passes m (probedAt a p) (probedAt a q) (candidate-cell (probedAt a p) m s) (candidate-cell (probedAt a q) m t)))
 
-map-take : (k : ℕ) (l : List Candidate) → rowsOf (take k l) ≡ take k (rowsOf l)
-map-take zero l = refl
-map-take (suc k) [] = refl
-map-take (suc k) (c ∷ l) = ap (λ (t : List ℕ). c .row ∷ t) (map-take k l)
-
 either {ℓ κ} : {A : Type ℓ} (P : A → Type κ) (t : Bool) (x y : A) → P x → P y → P (cond t x y)
 either P true x y f g = f
 either P false x y f g = g
@@ -217,7 +209,7 @@ answered-once l cs d p q h k e =
     let t = firstOf (askedOf l) cs in
     let w = length-map t rowOf in
     let f = fill blankRow (askedOf l - length t) in
-    let dt : Distinct (rowsOf t) = rw (map-take (askedOf l) (ordered cs)) (distinct-take (askedOf l) (rowsOf (ordered cs)) (distinct-ordered cs d)) in
+    let dt : Distinct (rowsOf t) = rw (map-take rowOf (askedOf l) (ordered cs)) (distinct-take (askedOf l) (rowsOf (ordered cs)) (distinct-ordered cs d)) in
     distinct-places (rowsOf t) dt p q (omega arith) (omega arith)
     (sym (List·getD-append (rowsOf t) f 0 p (omega arith)) ∙ e ∙ List·getD-append (rowsOf t) f 0 q (omega arith))
 

@@ -1,10 +1,9 @@
 -- What refusal 1's tests say of the numbers where none of them holds.
-use Prim.Native.Nat.{ℕ, zero, suc, _≤_, _<_}
-use mathlib.Core.Path.{_≡_, refl}
+use Prim.Native.Nat.{ℕ, _≤_, _<_}
+use mathlib.Core.Path.{_≡_}
 use mathlib.Core.Bool.{false}
 use native.Mathlib.Omega.{arith}
 use borrow.Author.Tests.{ltb-false, eqb-false}
-use lib.Dec.{eqb}
 use lib.Pow.{pow-pos, pow-mono}
 use Rattle.lists.proofs.Tests.{none}
 use Rattle.pq_params.specs.Bounds.{rangeTests, plainTests, celledTests, badRange, badPlain, badCelled, centersOf}
@@ -27,21 +26,10 @@ pub record CelledBounds (d nsub bits cells probes : ℕ) : Type 0 where
   pub probes-some : 0 < probes
   pub probes-fit : probes ≤ cells
 
--- a number that is not 0
-some : (x : ℕ) → eqb x 0 ≡ false → 0 < x
-some zero e = absurd (eqb-false 0 0 e refl)
-some (suc x) e = omega arith
-
 pub range-bounds : (d nsub : ℕ) → badRange d nsub ≡ false → RangeBounds d nsub
 range-bounds d nsub h =
     let p = none (rangeTests d nsub) h in
-    record {
-      d-some = some d (p 0);
-      d-most = ltb-false 256 d (p 1);
-      nsub-some = some nsub (p 2);
-      nsub-most = ltb-false 64 nsub (p 3);
-      nsub-fits = ltb-false d nsub (p 4);
-    }
+    omega (arith, eqb-false d 0 (p 0), ltb-false 256 d (p 1), eqb-false nsub 0 (p 2), ltb-false 64 nsub (p 3), ltb-false d nsub (p 4))
 
 pub plain-bounds : (d nsub bits : ℕ) → badPlain d nsub bits ≡ false → PlainBounds d nsub bits
 plain-bounds d nsub bits h =
@@ -53,9 +41,9 @@ celled-bounds d nsub bits cells probes h =
     let p = none (celledTests d nsub bits cells probes) h in
     record {
       plain = rw (p 0, p 1, p 2, p 3, p 4, p 5);
-      cells-some = some cells (p 6);
+      cells-some = omega (arith, eqb-false cells 0 (p 6));
       cells-most = ltb-false 1024 cells (p 7);
-      probes-some = some probes (p 8);
+      probes-some = omega (arith, eqb-false probes 0 (p 8));
       probes-fit = ltb-false cells probes (p 9);
     }
 

@@ -1,7 +1,7 @@
 -- Ranges: s = D / n_sub, e = D mod s. The first e are s+1 long, the others s, without gaps from 0.
 use Prim.Native.Nat.{ℕ, zero, suc, _+_, _/_, _%_}
 use mathlib.Core.List.{List, [], _∷_}
-use mathlib.Core.Bool.{Bool, true, false, cond}
+use mathlib.Core.Bool.{cond}
 use lib.Dec.{ltb}
 use Rattle.lists.specs.Lists.{tab}
 use Rattle.pq_params.specs.Bounds.{badRange}

@@ -1,17 +1,17 @@
 -- Laws on lists of row numbers: which rows stand in one, and two that rise and hold the same rows.
-use Prim.Native.Nat.{ℕ, zero, suc, _≤_, _<_}
+use Prim.Native.Nat.{ℕ, zero, suc, _≤_}
 use mathlib.Core.Path.{_≡_, refl, sym, _∙_, ap, ap₂}
 use mathlib.Core.Bool.{Bool, true, false, cond, true≢false}
 use mathlib.Core.List.{List, [], _∷_}
 use native.Mathlib.Omega.{arith}
-use lib.ListN.{length, getD}
 use Rattle.lists.specs.Tests.{keep}
+use Rattle.lists.proofs.Rising.{Rises, rises-at, rises-keep}
 use Rattle.policy.specs.Check.{HoldsAt, StandsIn}
 
 -- ---- rows that stand in a list
 
-pub in-head : (x : ℕ) (l : List ℕ) → StandsIn (x ∷ l) x
-in-head x l = (0, record { within = omega arith; held = refl })
+pub in-head : {x m : ℕ} (l : List ℕ) → x ≡ m → StandsIn (x ∷ l) m
+in-head l e = (0, record { within = omega arith; held = e })
 
 pub in-tail : (x : ℕ) (l : List ℕ) (m : ℕ) → StandsIn l m → StandsIn (x ∷ l) m
 in-tail x l m s = (suc (s .0), record { within = omega arith; held = s .1 .held })
@@ -25,22 +25,8 @@ not-in-nil h = omega arith
 
 -- ---- lists that rise
 
--- the elements rise from b on, each below the next
-abbrev pub Rises : ℕ → List ℕ → Type 0
-Rises b [] = Unit {0}
-Rises b (x ∷ l) = (b ≤ x) × Rises (suc x) l
-
-pub rises-of : (l : List ℕ) (b : ℕ) → (0 < length l → b ≤ getD l 0 0) → ((i : ℕ) → suc i < length l → getD l i 0 < getD l (suc i) 0) → Rises b l
-rises-of [] b h r = tt
-rises-of (x ∷ l) b h r = (h (omega arith), rises-of l (suc x) (λ k. r 0 (omega arith)) (λ i k. r (suc i) (omega arith)))
-
-rises-lower : (l : List ℕ) (b c : ℕ) → c ≤ b → Rises b l → Rises c l
-rises-lower [] b c h r = tt
-rises-lower (x ∷ l) b c h r = (omega arith, r .1)
-
 pub rises-from : (l : List ℕ) (b m p : ℕ) → Rises b l → HoldsAt l m p → b ≤ m
-rises-from [] b m p r h = absurd (not-in-nil h)
-rises-from (x ∷ l) b m p r h = in-cases x l m p h (λ e. omega arith) (λ s. omega (arith, rises-from l (suc x) m (s .0) (r .1) (s .1)))
+rises-from l b m p r h = omega (arith, rises-at l b p r (h .within))
 
 -- where x ∷ k rises and each of its rows stands in x ∷ l, each row of k stands in l
 past-head : (x : ℕ) (k l : List ℕ) → Rises (suc x) k → ((m : ℕ) → StandsIn (x ∷ k) m → StandsIn (x ∷ l) m) → (m : ℕ) → StandsIn k m → StandsIn l m
@@ -52,11 +38,11 @@ past-head x k l r f m s =
 pub same-rising : (k l : List ℕ) (b c : ℕ) → Rises b k → Rises c l
     → ((m : ℕ) → StandsIn k m → StandsIn l m) → ((m : ℕ) → StandsIn l m → StandsIn k m) → k ≡ l
 same-rising [] [] b c r q f g = refl
-same-rising [] (y ∷ l) b c r q f g = absurd (not-in-nil (g y (in-head y l) .1))
-same-rising (x ∷ k) [] b c r q f g = absurd (not-in-nil (f x (in-head x k) .1))
+same-rising [] (y ∷ l) b c r q f g = absurd (not-in-nil (g y (in-head l refl) .1))
+same-rising (x ∷ k) [] b c r q f g = absurd (not-in-nil (f x (in-head k refl) .1))
 same-rising (x ∷ k) (y ∷ l) b c r q f g =
-    let y≤x = rises-from (y ∷ l) y x _ (omega arith, q .1) (f x (in-head x k) .1) in
-    let x≤y = rises-from (x ∷ k) x y _ (omega arith, r .1) (g y (in-head y l) .1) in
+    let y≤x = rises-from (y ∷ l) y x _ (omega arith, q .1) (f x (in-head k refl) .1) in
+    let x≤y = rises-from (x ∷ k) x y _ (omega arith, r .1) (g y (in-head l refl) .1) in
     let e : y ≡ x = omega arith in
     ap₂ (λ (z : ℕ) (t : List ℕ). z ∷ t) (sym e)
     (same-rising k l (suc x) (suc y) (r .1) (q .1) (past-head x k l (r .1) (rw e at f)) (past-head x l k (rw e at (q .1)) (rw e at g)))
@@ -64,15 +50,6 @@ same-rising (x ∷ k) (y ∷ l) b c r q f g =
 -- ---- the elements at which f holds
 
 module _ (f : ℕ → Bool) where
-  pub rises-keep : (l : List ℕ) (b : ℕ) → Rises b l → Rises b (keep f l)
-  unfolding keep
-  rises-keep [] b r = tt
-  rises-keep (x ∷ l) b r = go (f x) (rises-keep l (suc x) (r .1))
-    where
-      go : (t : Bool) → Rises (suc x) (keep f l) → Rises b (cond t (x ∷ keep f l) (keep f l))
-      go true q = (r .0, q)
-      go false q = rises-lower (keep f l) (suc x) b (omega arith) q
-
   -- a row stands among the kept ones exactly if it stands in the list and f holds at it
   pub keep-in : (l : List ℕ) (m : ℕ) → f m ≡ true → StandsIn l m → StandsIn (keep f l) m
   unfolding keep
@@ -80,7 +57,7 @@ module _ (f : ℕ → Bool) where
   keep-in (x ∷ l) m e s = go (f x) refl (keep-in l m e)
     where
       go : (t : Bool) → f x ≡ t → (StandsIn l m → StandsIn (keep f l) m) → StandsIn (cond t (x ∷ keep f l) (keep f l)) m
-      go true p h = in-cases x l m (s .0) (s .1) (λ q. rw q (in-head m (keep f l))) (λ u. in-tail x (keep f l) m (h u))
+      go true p h = in-cases x l m (s .0) (s .1) (in-head (keep f l)) (λ u. in-tail x (keep f l) m (h u))
       go false p h = in-cases x l m (s .0) (s .1) (λ q. absurd (true≢false (sym e ∙ ap f (sym q) ∙ p))) h
 
   pub keep-from : (l : List ℕ) (m : ℕ) → StandsIn (keep f l) m → StandsIn l m × (f m ≡ true)
@@ -91,13 +68,13 @@ module _ (f : ℕ → Bool) where
       go : (t : Bool) → f x ≡ t → (StandsIn (keep f l) m → StandsIn l m × (f m ≡ true))
           → StandsIn (cond t (x ∷ keep f l) (keep f l)) m → StandsIn (x ∷ l) m × (f m ≡ true)
       go true p h u = in-cases x (keep f l) m (u .0) (u .1)
-          (λ q. (rw q (in-head m l), ap f (sym q) ∙ p))
+          (λ q. (in-head l q, ap f (sym q) ∙ p))
           (λ v. (in-tail x l m (h v .0), h v .1))
       go false p h u = (in-tail x l m (h u .0), h u .1)
 
   -- two lists that rise, and hold the same rows of those at which f holds
   pub keep-same : (k l : List ℕ) → Rises 0 k → Rises 0 l
       → ((m : ℕ) → f m ≡ true → StandsIn k m → StandsIn l m) → ((m : ℕ) → f m ≡ true → StandsIn l m → StandsIn k m) → keep f k ≡ keep f l
-  keep-same k l r q there back = same-rising (keep f k) (keep f l) 0 0 (rises-keep k 0 r) (rises-keep l 0 q)
+  keep-same k l r q there back = same-rising (keep f k) (keep f l) 0 0 (rises-keep f k 0 r) (rises-keep f l 0 q)
       (λ m s. keep-in l m (keep-from k m s .1) (there m (keep-from k m s .1) (keep-from k m s .0)))
       (λ m s. keep-in k m (keep-from l m s .1) (back m (keep-from l m s .1) (keep-from l m s .0)))
