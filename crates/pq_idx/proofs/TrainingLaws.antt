@@ -1,9 +1,9 @@
 -- Laws on the plain training: its frames are k-means' frames, its tasks k-means' tasks, and its columns of codes.
 use Prim.Native.Nat.{ℕ, zero, suc, _+_, _*_, _≤_, _<_}
-use mathlib.Core.Path.{_≡_, refl, sym, _∙_, ap, fun-ext}
+use mathlib.Core.Path.{_≡_, refl, sym, _∙_, ap, fun-ext, subst}
 use mathlib.Core.List.{List, []}
 use mathlib.Core.Bool.{Bool, true, false, cond, _&&_, false≢true}
-use native.Mathlib.Nat.{add-assoc, lt-of-lt-of-le}
+use native.Mathlib.Nat.{add-assoc, lt-of-lt-of-le, mul-add, mul-le-mul-left}
 use native.Mathlib.Numerals.{add-one}
 use native.Mathlib.Decide.{decLt, ℕ-discrete}
 use native.Mathlib.Omega.{arith}
@@ -11,15 +11,23 @@ use borrow.Author.Tests.{lt-ltb, le-ltb, eq-eqb, ne-eqb}
 use lib.Dec.{ltb, eqb}
 use lib.ListN.{length, getD, set}
 use lib.Ieee.{Float, nan}
-use Rattle.lists.specs.Lists.{grid}
+use Rattle.lists.specs.Lists.{grid, part}
+use Rattle.lists.proofs.Parts.{part-put}
 use Rattle.lists.proofs.Joins.{within, grid-ext, grid-self, set-grid}
 use Rattle.metrics.specs.Distance.{valueOf}
 use Rattle.kmeans.specs.declared.Frame.{Frame}
 use Rattle.lists.proofs.Tables.{length-tab, getD-tab}
-use Rattle.kmeans.specs.Kmeans.{Task, assignedOf, chosenAt}
-use Rattle.kmeans.proofs.Laws.{nearest-lt}
+use Rattle.kmeans.specs.declared.Clustered.{Clustered}
+use Rattle.kmeans.specs.declared.Clustered.the-variants.{Done, OutOfDraws, NotFinite}
+use Rattle.kmeans.specs.Kmeans.{Task, train, assignedOf, chosenAt}
+use Rattle.kmeans.proofs.Laws.{nearest-lt, NotDone}
 use Rattle.kmeans.specs.Frame.{memberOf, valueAt, taskOf, Framed}
-use Rattle.pq_idx.specs.TrainInner.{Whole, storedAt}
+use Rattle.pq_idx.specs.TrainInner.{Whole, Trainable, frameOf, plainOf, storedAt, stored, codesAfter, RanAt, Learnt}
+use Rattle.pq_idx.specs.Training.{taskOf as subTaskOf}
+use Rattle.pq_params.specs.Bounds.{centersOf}
+use Rattle.pq_params.specs.Ranges.{beginOf, widthOf, coveredOf}
+use Rattle.pq_params.proofs.Bounds.{plain-bounds, centers-some, centers-most}
+use Rattle.pq_params.proofs.RangeRule.{begin-next, begin-mono, begin-within, width-most}
 
 -- a frame over all rows is a frame of any list and any residual of the range's width
 pub whole-framed : {f : Frame} {rows : List Float} (members : List ℕ) (residual : List Float) → Whole f rows → length residual ≡ f .w → Framed f rows members residual
@@ -99,3 +107,50 @@ pub codes-fit : (t : Task) (cs : List Float) (to : List ℕ) → 0 < t .centers 
 codes-fit t cs to h l e k m =
     let p : k < t .n = omega (arith, ap length e ∙ length-tab (chosenAt t cs) (t .n)) in
     rw (e, getD-tab (chosenAt t cs) (t .n) k 0 p) (lt-of-lt-of-le (nearest-lt _ (t .centers) h) l)
+
+-- ---- one sub-space
+
+-- the stretch of sub-space s lies within the sub-centres
+pub stretch-within : (d nsub k s : ℕ) → s < nsub → k * beginOf d nsub s + k * widthOf d nsub s ≤ k * coveredOf d nsub
+stretch-within d nsub k s h = rw (← mul-add k (beginOf d nsub s) (widthOf d nsub s), ← begin-next d nsub s) (mul-le-mul-left k (begin-mono d nsub (suc s) nsub h))
+
+module _ {d nsub bits epochs n : ℕ} {rows draws : List Float} (t : Trainable d nsub bits epochs n rows draws) (s : ℕ) (h : s < nsub) where
+  -- its frame is over all rows
+  pub frame-whole : Whole (frameOf d nsub bits n s) rows
+  frame-whole =
+      let p = plain-bounds d nsub bits (t .good) in
+      record {
+        plain = refl;
+        unlisted = refl;
+        some-row = t .some-row;
+        rows-le = t .rows-le;
+        some-center = centers-some bits;
+        centers-le = centers-most bits (p .bits-most);
+        inside = rw (← begin-next d nsub s) (begin-within d nsub (p .range) (suc s) h);
+        wide = width-most d nsub (p .range) s;
+        held = omega (arith, t .rows-long);
+      }
+
+  -- and its k-means is that of document 01's sub-space
+  pub frame-task : taskOf (frameOf d nsub bits n s) rows [] [] epochs draws ≡ subTaskOf (plainOf d nsub bits epochs n rows draws) s
+  unfolding valueOf
+  frame-task =
+      ap (withValue (taskOf (frameOf d nsub bits n s) rows [] [] epochs draws))
+      (fun-ext (λ k. fun-ext (λ j. ap (λ (x : ℕ). getD rows x nan) (add-assoc (k * d) (beginOf d nsub s) j))))
+
+-- a refusal leaves the codes
+pub codes-refused : (c : Clustered) (new old : List ℕ) → NotDone c → old ≡ codesAfter c new old
+codes-refused (Done used) new old h = absurd h
+codes-refused (OutOfDraws epoch center) new old h = refl
+codes-refused (NotFinite step epoch center) new old h = refl
+
+-- what a k-means leaves in its stretch is what its sub-space leaves, once its column is known
+pub ran-learnt : {kt t : Task} {used at w : ℕ} {subs subs' : List Float} {answer : Clustered} {assigned codes codes' : List ℕ} (n nsub s : ℕ) → kt ≡ t → RanAt kt used at w subs answer subs' assigned
+    → codes' ≡ codesAfter answer (stored codes (assignedOf kt (train kt used .centers)) n nsub s) codes → Learnt t used n nsub s at w subs codes answer subs' codes'
+ran-learnt {used = used} {at = at} {w = w} {subs = subs} {subs' = subs'} {answer = answer} {codes = codes} {codes' = codes'} n nsub s e r f =
+    subst (λ t. Learnt t used n nsub s at w subs codes answer subs' codes') e (record { said = r .said; placed = r .placed; long = r .long; coded = f })
+
+-- the stretch that was put in is the centres
+pub ran-part : {t : Task} {used at w : ℕ} {subs subs' : List Float} {answer : Clustered} {assigned : List ℕ} → RanAt t used at w subs answer subs' assigned → at ≤ length subs
+    → part subs' at w ≡ train t used .centers
+ran-part {at = at} {w = w} {subs = subs} r h = rw (r .placed) (part-put subs _ at w h (r .long))

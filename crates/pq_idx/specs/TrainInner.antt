@@ -102,12 +102,12 @@ codesAfter (Done used) new old = new
 codesAfter (OutOfDraws epoch center) new old = old
 codesAfter (NotFinite step epoch center) new old = old
 
--- what one sub-space leaves: run is its k-means, to the last assignment
-pub record Learnt (t : Task) (used n nsub s at w : ℕ) (subs : List Float) (codes : List ℕ) (answer : Clustered) (subs' : List Float) (codes' assigned' : List ℕ) : Type 0 where
+-- what one sub-space leaves: its k-means' answer and centres, and its column of the codes
+pub record Learnt (t : Task) (used n nsub s at w : ℕ) (subs : List Float) (codes : List ℕ) (answer : Clustered) (subs' : List Float) (codes' : List ℕ) : Type 0 where
   pub said : answer ≡ train t used .answer
   pub placed : subs' ≡ putPart subs at w (train t used .centers)
+  pub long : length (train t used .centers) ≡ w
   pub coded : codes' ≡ codesAfter answer (stored codes (assignedOf t (train t used .centers)) n nsub s) codes
-  pub chosen : assigned' ≡ codesAfter answer (assignedOf t (train t used .centers)) (train t used .assigned)
 
 -- the codes after the sub-spaces below s
 abbrev pub codedAt : Listed → List Float → List ℕ → ℕ → ℕ → ℕ → ℕ

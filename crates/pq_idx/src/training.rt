@@ -127,3 +127,32 @@ fn code_at(
     assign_stretch(f, rows, c, assigned);
     store_codes(assigned, n_sub, s, codes);
 }
+
+// Sub-space s: its k-means into its own stretch of the sub-centres, and its column of the codes.
+fn train_sub(
+    d: usize,
+    n_sub: usize,
+    sub_bits: usize,
+    n: usize,
+    s: usize,
+    rows: &[f32],
+    draws: &[f64],
+    used: usize,
+    epochs: u32,
+    subs: &mut [f32],
+    codes: &mut [u8],
+    assigned: &mut [u32],
+) -> Clustered
+    requires { ⌜ Trainable d «n_sub» «sub_bits» epochs n (now rows) (now draws) ⌝ }
+    requires { ⌜ Outputs d «n_sub» «sub_bits» n used (now draws) (now subs) (now codes) (now assigned) × (s < «n_sub») ⌝ }
+    ensures { λ r. ⌜ Learnt (subTask (plainOf d «n_sub» «sub_bits» epochs n (now (rows .entry)) (now (draws .entry))) s) used n «n_sub» s (centersOf «sub_bits» * beginOf d «n_sub» s) (centersOf «sub_bits» * widthOf d «n_sub» s) (now (subs .entry)) (now (codes .entry)) r (now (subs .exit)) (now (codes .exit)) ⌝ }
+{
+    let f = frame(d, n_sub, sub_bits, n, s);
+    let at = f.centers * f.begin;
+    let c = train_at(f, rows, draws, used, epochs, subs, at, assigned);
+    let Clustered::Done(next) = c else {
+        return c;
+    };
+    code_at(f, rows, subs, at, n_sub, s, codes, assigned);
+    Clustered::Done(next)
+}
