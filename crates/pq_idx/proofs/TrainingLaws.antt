@@ -3,7 +3,7 @@ use Prim.Native.Nat.{ℕ, zero, suc, _+_, _*_, _≤_, _<_}
 use mathlib.Core.Path.{_≡_, refl, sym, _∙_, ap, fun-ext, subst}
 use mathlib.Core.List.{List, []}
 use mathlib.Core.Bool.{Bool, true, false, cond, _&&_, false≢true}
-use native.Mathlib.Nat.{add-assoc, lt-of-lt-of-le, mul-add, mul-le-mul-left}
+use native.Mathlib.Nat.{add-assoc, le-of-lt, lt-of-lt-of-le, mul-add, mul-le-mul-left, mul-le-mul-right}
 use native.Mathlib.Numerals.{add-one}
 use native.Mathlib.Decide.{decLt, ℕ-discrete}
 use native.Mathlib.Omega.{arith}
@@ -26,7 +26,7 @@ use Rattle.pq_idx.specs.TrainInner.{Whole, Trainable, frameOf, plainOf, 
 use Rattle.pq_idx.specs.Training.{taskOf as subTaskOf}
 use Rattle.pq_params.specs.Bounds.{centersOf}
 use Rattle.pq_params.specs.Ranges.{beginOf, widthOf, coveredOf}
-use Rattle.pq_params.proofs.Bounds.{plain-bounds, centers-some, centers-most}
+use Rattle.pq_params.proofs.Bounds.{plain-bounds, range-bounds, centers-some, centers-most}
 use Rattle.pq_params.proofs.RangeRule.{begin-next, begin-mono, begin-within, width-most}
 
 -- a frame over all rows is a frame of any list and any residual of the range's width
@@ -154,3 +154,9 @@ ran-learnt {used = used} {at = at} {w = w} {subs = subs} {subs' = subs'} {answer
 pub ran-part : {t : Task} {used at w : ℕ} {subs subs' : List Float} {answer : Clustered} {assigned : List ℕ} → RanAt t used at w subs answer subs' assigned → at ≤ length subs
     → part subs' at w ≡ train t used .centers
 ran-part {at = at} {w = w} {subs = subs} r h = rw (r .placed) (part-put subs _ at w h (r .long))
+
+-- the sub-centres of a sub-space begin at a number that fits
+pub begin-fits : {d nsub bits epochs n : ℕ} {rows draws : List Float} (t : Trainable d nsub bits epochs n rows draws) (s : ℕ) → s < nsub → centersOf bits * beginOf d nsub s ≤ 65_536
+begin-fits {d} {nsub} {bits} t s h =
+    let p = plain-bounds d nsub bits (t .good) in
+    omega (arith, mul-le-mul-right (beginOf d nsub s) (centers-most bits (p .bits-most)), begin-within d nsub (p .range) s (le-of-lt h), range-bounds d nsub (p .range) .d-most)

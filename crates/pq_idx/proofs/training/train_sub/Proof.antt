@@ -12,7 +12,7 @@ use Rattle.pq_params.specs.Ranges.{beginOf, widthOf}
 use Rattle.kmeans.specs.declared.Frame.{Frame}
 use Rattle.kmeans.specs.Frame.{taskOf}
 use Rattle.pq_idx.specs.TrainInner.{Whole, frameOf, plainOf, stored}
-use Rattle.pq_idx.proofs.TrainingLaws.{stretch-within, frame-whole, frame-task, codes-refused, ran-learnt, ran-part}
+use Rattle.pq_idx.proofs.TrainingLaws.{stretch-within, frame-whole, frame-task, codes-refused, ran-learnt, ran-part, begin-fits}
 use Rattle.kmeans.specs.Kmeans.{train, assignedOf}
 use Rattle.kmeans.proofs.Laws.{told-not-done}
 use Rattle.pq_params.proofs.Bounds.{plain-bounds, range-bounds}
@@ -31,7 +31,7 @@ mul-at : tie.Need-mul-at
 mul-at c =
     let s = c .before .before .before .before .before .before .before in
     let a = s .args in
-    let g : centersOf (a .sub-bits) * beginOf (a .d) (a .n-sub) (a .s) < 18446744073709551616 = omega (arith, stretch-within (a .d) (a .n-sub) (centersOf (a .sub-bits)) (a .s) (s .pre .1 .1), s .pre .1 .0 .subs-long) in
+    let g : centersOf (a .sub-bits) * beginOf (a .d) (a .n-sub) (a .s) < 18446744073709551616 = omega (arith, begin-fits (s .pre .0) (a .s) (s .pre .1 .1)) in
     record { fits = rw (c .before .frame .ensures) g }
 
 train-at-requires : tie.Need-train-at-requires
