@@ -14,14 +14,16 @@ use lib.IntN.{ℤ, pos}
 use lib.Ieee.{Float, nan, inf, fin, binary64, up, down, unlike, lt, eq, le, div, round, ofInt, ofBits}
 use lib.Ieee.Fits.{up-pos}
 use lib.Ieee.Scale.{round-same}
-use Rattle.lists.specs.Lists.{tab}
+use Rattle.lists.specs.Lists.{tab, putPart}
+use Rattle.lists.proofs.Parts.{length-putPart}
+use Rattle.lists.proofs.Joins.{within, length-grid}
 use Rattle.lists.specs.Tests.{count}
 use Rattle.lists.proofs.Tables.{length-tab, getD-tab, tab-set}
 use Rattle.lists.proofs.Tests.{and-l, count-zero, count-yes, count-no, first-hit}
 use Rattle.kmeans.specs.declared.Clustered.{Clustered}
 use Rattle.kmeans.specs.declared.Clustered.the-variants.{Done, OutOfDraws}
 use Rattle.kmeans.specs.declared.Clustered.the-variants.{NotFinite as CenterNotFinite}
-use Rattle.kmeans.specs.Kmeans.{Task, Run, isOf, chosenAt, countAt, assignedOf, averagesOf, lowestBroken, started, walkAt, takenAt, drawsLeft, stepsOf, finiteCenter, splitCenters, splitCounts, splitOff, fillCenter, fillIfEmpty, onward, splitTo, averaged, epochOf, beginning, epochsTo, train}
+use Rattle.kmeans.specs.Kmeans.{Task, Run, isOf, chosenAt, countAt, assignedOf, averagesOf, lowestBroken, started, walkAt, takenAt, drawsLeft, stepsOf, finiteCenter, splitCenters, splitCounts, splitOff, fillCenter, fillIfEmpty, onward, splitTo, averaged, epochOf, beginning, epochsTo, train, gotAt, leftAt, coordinate, averageAt, startAt}
 use Rattle.kmeans.specs.Splits.{total, Counted, Drawn, NotNegative, DonorOf}
 use Rattle.kmeans.proofs.Assigning.{chosen-rule}
 
@@ -247,3 +249,43 @@ split-drawn t before epoch at i r q e f g h d =
 -- and where the epochs stand
 pub epochs-drawn-at : (t : Task) (before at e : ℕ) (q : Run) → q ≡ epochsTo t before e → q .answer ≡ Done at → before ≤ length (t .draws) → at ≤ length (t .draws)
 epochs-drawn-at t before at e q g f d = (rw (← g, f) at (epochs-drawn t before d e)) .1
+
+-- ---- the size of a run
+
+-- the centres are always n_center stretches of the range's width
+abbrev Sized : Task → Run → Type 0
+Sized t r = length (r .centers) ≡ t .centers * t .w
+
+fill-sized : (t : Task) (epoch i used : ℕ) (r : Run) → i < t .centers → Sized t r → Sized t (fillCenter t epoch i used r)
+unfolding fillCenter splitOff splitCenters
+fill-sized t epoch i used r h e =
+    let s = stepsOf t (r .counts) used i in
+    let a = walkAt t i s in
+    let w = t .w in
+    let got = tab (gotAt (coordinate (r .centers) w a)) w in
+    let left = tab (leftAt (coordinate (r .centers) w a)) w in
+    let p : length (putPart (r .centers) (i * w) w got) ≡ length (r .centers) =
+    length-putPart (r .centers) got (i * w) w (omega (arith, within i (t .centers) w h)) (length-tab (gotAt (coordinate (r .centers) w a)) w)
+    in
+    either (Sized t) (ltb s (drawsLeft t used))
+    (λ f. length-putPart (putPart (r .centers) (i * w) w got) left (a * w) w (omega (arith, within a (t .centers) w (walk-below t i s h))) (length-tab (leftAt (coordinate (r .centers) w a)) w) ∙ p ∙ e)
+    e
+
+epoch-sized : (t : Task) (epoch : ℕ) (r : Run) (used : ℕ) → Sized t (epochOf t epoch r used)
+unfolding epochOf averaged
+epoch-sized t epoch r used =
+    let a = length-grid (averageAt t (assignedOf t (r .centers))) (t .centers) (t .w) in
+    either (Sized t) (ltb epoch (t .epochs)) (λ e. split-keeps t epoch (Sized t) (λ i u q l f z p. fill-sized t epoch i u q l p) _ a (t .centers) (omega arith)) a
+
+epochs-sized : (t : Task) (used e : ℕ) → Sized t (epochsTo t used e)
+unfolding epochsTo beginning
+epochs-sized t used zero = length-grid (startAt t) (t .centers) (t .w)
+epochs-sized t used (suc e) = go (epochsTo t used e) (epochsTo t used e .answer) (epochs-sized t used e)
+  where
+    go : (r : Run) (c : Clustered) → Sized t r → Sized t (onward c r (epochOf t (suc e) r))
+    go r (Done u) p = epoch-sized t (suc e) r u
+    go r (OutOfDraws o c) p = p
+    go r (CenterNotFinite s o c) p = p
+
+pub train-sized : (t : Task) (used : ℕ) → length (train t used .centers) ≡ t .centers * t .w
+train-sized t used = epochs-sized t used (t .epochs)

@@ -1,1 +1,2 @@
 pub mod TrainingLaws
+pub mod CenterLaws

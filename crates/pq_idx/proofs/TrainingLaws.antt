@@ -67,13 +67,13 @@ past k i n h = elim (decLt k i) [ yes l ↦ omega arith | no l ↦ absurd (n (om
 
 module _ (codes to : List ℕ) (nsub s : ℕ) where
   -- the test of a place (m, q) that holds, and the two ways in which it fails
-  here : (k m q : ℕ) → m < k → q ≡ s → storedAt codes to nsub s k m q ≡ getD to m 0
+  pub here : (k m q : ℕ) → m < k → q ≡ s → storedAt codes to nsub s k m q ≡ getD to m 0
   here k m q h e = rw (lt-ltb m k h, eq-eqb q s e)
 
   below : (k m q : ℕ) → k ≤ m → storedAt codes to nsub s k m q ≡ getD codes (m * nsub + q) 0
   below k m q h = rw (le-ltb m k h)
 
-  beside : (k m q : ℕ) → (q ≡ s → ⊥) → storedAt codes to nsub s k m q ≡ getD codes (m * nsub + q) 0
+  pub beside : (k m q : ℕ) → (q ≡ s → ⊥) → storedAt codes to nsub s k m q ≡ getD codes (m * nsub + q) 0
   beside k m q h = rw (ne-eqb q s h) (neither (ltb m k))
     where
       neither : (b : Bool) → cond (b && false) (getD to m 0) (getD codes (m * nsub + q) 0) ≡ getD codes (m * nsub + q) 0

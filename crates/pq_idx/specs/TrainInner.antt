@@ -14,7 +14,9 @@ use Rattle.kmeans.specs.declared.Clustered.{Clustered}
 use Rattle.kmeans.specs.declared.Clustered.the-variants.{Done, OutOfDraws, NotFinite}
 use Rattle.kmeans.specs.Kmeans.{Task, Run, train, assignedOf}
 use Rattle.kmeans.specs.Splits.{NotNegative}
-use Rattle.pq_idx.specs.Training.{Listed, taskOf, rowAt, centersAt, codeOf}
+use Rattle.pq_idx.specs.declared.Trained.{Trained}
+use Rattle.pq_idx.specs.declared.Trained.the-variants.{Done as TrainedDone}
+use Rattle.pq_idx.specs.Training.{Listed, taskOf, rowAt, centersAt, codeOf, answerOf, subCenters}
 
 -- the frame of sub-space s over all rows, without residual
 abbrev pub frameOf : ℕ → ℕ → ℕ → ℕ → ℕ → Frame
@@ -109,6 +111,16 @@ pub record Learnt (t : Task) (used n nsub s at w : ℕ) (subs : List Float) (cod
   pub long : length (train t used .centers) ≡ w
   pub coded : codes' ≡ codesAfter answer (stored codes (assignedOf t (train t used .centers)) n nsub s) codes
 
+-- the code of row m in sub-space q
+abbrev pub codesOf : Listed → List Float → ℕ → ℕ → ℕ
+codesOf l rows m q = codeOf l (rowAt rows (l .d) m) q
+
 -- the codes after the sub-spaces below s
 abbrev pub codedAt : Listed → List Float → List ℕ → ℕ → ℕ → ℕ → ℕ
-codedAt l rows codes s m q = cond (ltb q s) (codeOf l (rowAt rows (l .d) m) q) (getD codes (m * l .nsub + q) 0)
+codedAt l rows codes s m q = cond (ltb q s) (codesOf l rows m q) (getD codes (m * l .nsub + q) 0)
+
+-- what all sub-spaces leave, where none refuses
+pub record Centered (l : Listed) (rows : List Float) (answer : Trained) (subs' : List Float) (codes' : List ℕ) : Type 0 where
+  pub said : answer ≡ answerOf l
+  pub made : (used : ℕ) → answer ≡ TrainedDone used → subs' ≡ subCenters l
+  pub coded : (used : ℕ) → answer ≡ TrainedDone used → codes' ≡ grid (codesOf l rows) (l .n) (l .nsub)

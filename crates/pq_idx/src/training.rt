@@ -12,8 +12,11 @@ ghost use Rattle.kmeans.specs.Frame.{taskOf, Framed};
 ghost use Rattle.kmeans.specs.Inner.{Lent, runOf};
 ghost use Rattle.kmeans.specs.Kmeans.{train};
 ghost use Rattle.kmeans.specs.Splits.{NotNegative};
-ghost use Rattle.pq_idx.specs.TrainInner.{frameOf, plainOf, Trainable, Outputs, Whole, Ran, RanAt, CodedAt, storedAt, stored, Learnt};
+ghost use Rattle.pq_idx.specs.TrainInner.{frameOf, plainOf, Trainable, Outputs, Whole, Ran, RanAt, CodedAt, storedAt, stored, Learnt, Centered};
+ghost use Rattle.pq_idx.specs.Answers.{staged};
 ghost use Rattle.pq_idx.specs.Training.{taskOf as subTask};
+use crate::Stage;
+use crate::Trained;
 use kmeans::Clustered;
 use kmeans::Frame;
 
@@ -155,4 +158,74 @@ fn train_sub(
     };
     code_at(f, rows, subs, at, n_sub, s, codes, assigned);
     Clustered::Done(next)
+}
+
+// The answer of a sub-space's k-means, with its stage.
+fn staged(s: usize, c: Clustered) -> Trained
+    requires { ⌜ s < 64 ⌝ }
+    ensures { λ r. ⌜ r ≡ staged (Stage.Sub 0 s) c ⌝ }
+{
+    let stage = Stage::Sub {
+        cell: 0,
+        sub: s as u32,
+    };
+    match c {
+        Clustered::Done(used) => Trained::Done(used),
+        Clustered::OutOfDraws { epoch, center } => Trained::OutOfDraws {
+            stage,
+            epoch,
+            center,
+        },
+        Clustered::NotFinite {
+            step,
+            epoch,
+            center,
+        } => Trained::NotFinite {
+            stage,
+            step,
+            epoch,
+            center,
+        },
+    }
+}
+
+// All sub-spaces, rising; the draws used so far are carried on.
+fn train_center(
+    d: usize,
+    n_sub: usize,
+    sub_bits: usize,
+    n: usize,
+    rows: &[f32],
+    draws: &[f64],
+    epochs: u32,
+    subs: &mut [f32],
+    codes: &mut [u8],
+    assigned: &mut [u32],
+) -> Trained
+    requires { ⌜ Trainable d «n_sub» «sub_bits» epochs n (now rows) (now draws) ⌝ }
+    requires { ⌜ Outputs d «n_sub» «sub_bits» n 0 (now draws) (now subs) (now codes) (now assigned) ⌝ }
+    ensures { λ r. ⌜ Centered (plainOf d «n_sub» «sub_bits» epochs n (now (rows .entry)) (now (draws .entry))) (now (rows .entry)) r (now (subs .exit)) (now (codes .exit)) ⌝ }
+{
+    let mut used = 0;
+    for s in 0..n_sub {
+        let c = train_sub(
+            d,
+            n_sub,
+            sub_bits,
+            n,
+            s,
+            rows,
+            draws,
+            used,
+            epochs,
+            subs,
+            codes,
+            assigned,
+        );
+        let Clustered::Done(next) = c else {
+            return staged(s, c);
+        };
+        used = next;
+    }
+    Trained::Done(used)
 }
