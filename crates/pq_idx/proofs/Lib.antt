@@ -1,2 +1,9 @@
 pub mod TrainingLaws
 pub mod CenterLaws
+pub mod SearchingRefusals
+pub mod SearchingTables
+pub mod SearchingRows
+pub mod SearchingResults
+pub mod SearchingWalk
+pub mod SearchingCell
+pub mod SearchingOutcome

@@ -5,3 +5,4 @@ pub mod Tables
 pub mod Refusals
 pub mod Results
 pub mod Outcomes
+pub mod SearchInner

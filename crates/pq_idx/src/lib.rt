@@ -1,5 +1,7 @@
 // The plain index: its training and its search.
-mod training;
+pub mod refusals;
+pub mod search;
+pub mod training;
 
 use kmeans::Step;
 
