@@ -13,11 +13,11 @@ use Rattle.lists.proofs.Tables.{last-or}
 
 -- ---- tests joined by `|`
 
-or-l : (a b : Bool) → (a || b) ≡ false → a ≡ false
+pub or-l : (a b : Bool) → (a || b) ≡ false → a ≡ false
 or-l true b h = h
 or-l false b h = refl
 
-or-r : (a b : Bool) → (a || b) ≡ false → b ≡ false
+pub or-r : (a b : Bool) → (a || b) ≡ false → b ≡ false
 or-r true b h = absurd (true≢false h)
 or-r false b h = h
 

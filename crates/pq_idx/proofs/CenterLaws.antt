@@ -1,7 +1,11 @@
 -- Laws on the plain training's walk of the sub-spaces: the answer, the sub-centres and the codes after some of them.
 use Prim.Native.Nat.{ℕ, zero, suc, _+_, _*_, _≤_, _<_}
 use mathlib.Core.Path.{_≡_, refl, sym, _∙_, ap, subst}
-use mathlib.Core.List.{List, []}
+use mathlib.Core.List.{List, [], _∷_}
+use mathlib.Core.Logic.{inl, inr}
+use types.Run.{OneOf}
+use denote.Enum.Declared.{tagOf}
+use Rattle.pq_idx.proofs.Trained.{the-type}
 use mathlib.Core.Bool.{Bool, true, false, cond, _&&_}
 use native.Mathlib.Nat.{mul-add, mul-zero}
 use native.Mathlib.Decide.{decLe, decLt, ℕ-discrete}
@@ -11,7 +15,9 @@ use borrow.Author.Tests.{lt-ltb, le-ltb, eq-eqb, ne-eqb}
 use lib.ListN.{length, getD}
 use lib.Dec.{ltb, eqb}
 use lib.Ieee.{Float}
-use Rattle.lists.specs.Lists.{grid}
+use Rattle.lists.specs.Lists.{grid, fill}
+use Rattle.metrics.specs.Distance.{zero32}
+use Rattle.pq_idx.specs.TrainRefusal.{subsLeft, codesLeft}
 use Rattle.lists.proofs.Tables.{length-tab, getD-tab}
 use Rattle.lists.proofs.Joins.{Begins, grid-ext, getD-grid}
 use Rattle.pq_params.specs.Bounds.{centersOf}
@@ -113,3 +119,25 @@ module _ (d nsub bits epochs n : ℕ) (rows draws : List Float) (codes : List �
 -- a refusal makes no promise on the outputs
 pub nothing-made {ℓ} : {A : Type ℓ} (stage : Stage) (c : Clustered) (t : Trained) → t ≡ staged stage c → NotDone c → (used : ℕ) → t ≡ Done used → A
 nothing-made stage c t e n used f = absurd (not-both t used (subst Refusal (sym e) (refused-staged stage c n)) f)
+
+-- what a `match` tells of an answer that is not `Done`
+pub told-refusal : (t : Trained) → OneOf (1 ∷ 2 ∷ 3 ∷ []) (tagOf the-type t) → Refusal t
+told-refusal (Done used) (inl h) = absurd (omega arith)
+told-refusal (Done used) (inr (inl h)) = absurd (omega arith)
+told-refusal (Done used) (inr (inr h)) = absurd (omega arith)
+told-refusal (Refused number) h = tt
+told-refusal (OutOfDraws stage epoch center) h = tt
+told-refusal (NotFinite stage step epoch center) h = tt
+
+-- a refusal leaves zeros
+pub subs-zero : (t : Trained) (subs : List Float) → Refusal t → fill zero32 (length subs) ≡ subsLeft t subs
+subs-zero (Done used) subs h = absurd h
+subs-zero (Refused number) subs h = refl
+subs-zero (OutOfDraws stage epoch center) subs h = refl
+subs-zero (NotFinite stage step epoch center) subs h = refl
+
+pub codes-zero : (t : Trained) (codes : List ℕ) → Refusal t → fill 0 (length codes) ≡ codesLeft t codes
+codes-zero (Done used) codes h = absurd h
+codes-zero (Refused number) codes h = refl
+codes-zero (OutOfDraws stage epoch center) codes h = refl
+codes-zero (NotFinite stage step epoch center) codes h = refl

@@ -7,3 +7,4 @@ pub mod SearchingResults
 pub mod SearchingWalk
 pub mod SearchingCell
 pub mod SearchingOutcome
+pub mod TrainOutcome

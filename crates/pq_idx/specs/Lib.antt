@@ -6,3 +6,4 @@ pub mod Refusals
 pub mod Results
 pub mod Outcomes
 pub mod SearchInner
+pub mod TrainRefusal

@@ -5,8 +5,11 @@ ghost use Prim.Native.Nat.{ℕ, _+_, _*_, _≤_, _<_};
 ghost use mathlib.Core.List.{List, []};
 ghost use lib.ListN.{length, getD};
 ghost use Rattle.lists.specs.Lists.{grid, part};
-ghost use Rattle.pq_params.specs.Bounds.{badPlain, badRange, centersOf};
-ghost use Rattle.pq_params.specs.Ranges.{beginOf, widthOf};
+ghost use Rattle.lists.specs.Tests.{anyOf};
+ghost use Rattle.pq_params.specs.Bounds.{badPlain, tooManyRows, centersOf};
+ghost use Rattle.pq_params.specs.Ranges.{beginOf, widthOf, coveredOf};
+ghost use Rattle.pq_idx.specs.Outcomes.{TrainIn, TrainOut, trainOutcome};
+ghost use Rattle.pq_idx.specs.TrainRefusal.{trainLengthTests, trainRefusalBy, subsLeft, codesLeft, trainEnded};
 ghost use Rattle.kmeans.specs.Kmeans.{assignedOf};
 ghost use Rattle.kmeans.specs.Frame.{taskOf, Framed};
 ghost use Rattle.kmeans.specs.Inner.{Lent, runOf};
@@ -17,6 +20,7 @@ ghost use Rattle.pq_idx.specs.Answers.{staged};
 ghost use Rattle.pq_idx.specs.Training.{taskOf as subTask};
 use crate::Stage;
 use crate::Trained;
+use crate::refusals;
 use kmeans::Clustered;
 use kmeans::Frame;
 
@@ -228,4 +232,151 @@ fn train_center(
         used = next;
     }
     Trained::Done(used)
+}
+
+// The lengths of the outputs and of work.
+pub struct TrainLengths {
+    pub subs: usize,
+    pub codes: usize,
+    pub work: usize,
+}
+
+// Test 4 of a training.
+fn bad_train_lengths(
+    d: usize,
+    n_sub: usize,
+    sub_bits: usize,
+    n: usize,
+    rows: usize,
+    draws: usize,
+    l: TrainLengths,
+) -> bool
+    requires { ⌜ (badPlain d «n_sub» «sub_bits» ≡ false) × (tooManyRows n ≡ false) ⌝ }
+    ensures { λ r. ⌜ r ≡ anyOf (trainLengthTests d «n_sub» «sub_bits» n rows draws l) ⌝ }
+{
+    let centers = pq_params::centers(sub_bits);
+    let covered = pq_params::covered(d, n_sub);
+    let many = pq_params::too_many_draws(draws);
+    (rows != n * d)
+        | (l.subs != centers * covered)
+        | (l.codes != n * n_sub)
+        | (l.work != n + 1024)
+        | many
+}
+
+// Tests 1, 2, 3, 4, 6, 7 in that order: the number of the first that refuses, or 0.
+fn train_refusal(
+    d: usize,
+    n_sub: usize,
+    sub_bits: usize,
+    epochs: usize,
+    n: usize,
+    rows: &[f32],
+    draws: &[f64],
+    l: TrainLengths,
+) -> u32
+    ensures { λ r. ⌜ r ≡ trainRefusalBy d «n_sub» «sub_bits» epochs n (now (rows .entry)) (now (draws .entry)) l ⌝ }
+{
+    if pq_params::bad_plain(d, n_sub, sub_bits) | pq_params::bad_epochs(epochs) {
+        return 1;
+    }
+    if n == 0 {
+        return 2;
+    }
+    if pq_params::too_many_rows(n) {
+        return 3;
+    }
+    if bad_train_lengths(d, n_sub, sub_bits, n, rows.len(), draws.len(), l) {
+        return 4;
+    }
+    if refusals::any_not_finite(rows) {
+        return 6;
+    }
+    if refusals::any_draw_out(draws) {
+        return 7;
+    }
+    0
+}
+
+// The outputs are zero after a refusal.
+fn finish(t: Trained, subs: &mut [f32], codes: &mut [u8])
+    ensures { λ _. ⌜ (now (subs .exit) ≡ subsLeft t (now (subs .entry))) × (now (codes .exit) ≡ codesLeft t (now (codes .entry))) ⌝ }
+{
+    let Trained::Done(_) = t else {
+        lists::fill_floats(subs, 0.0);
+        lists::fill_bytes(codes, 0);
+        return;
+    };
+}
+
+// The work of a training whose input has passed the tests.
+fn train_ready(
+    d: usize,
+    n_sub: usize,
+    sub_bits: usize,
+    epochs: usize,
+    n: usize,
+    rows: &[f32],
+    draws: &[f64],
+    subs: &mut [f32],
+    codes: &mut [u8],
+    work: &mut [u32],
+) -> Trained
+    requires { ⌜ Trainable d «n_sub» «sub_bits» epochs n (now rows) (now draws) ⌝ }
+    requires { ⌜ (length (now subs) ≡ centersOf «sub_bits» * coveredOf d «n_sub») × (length (now codes) ≡ n * «n_sub») × (length (now work) ≡ n + 1024) ⌝ }
+    ensures { λ r. ⌜ _≡_ {A = TrainOut} (record { answer = r; subs = now (subs .exit); codes = now (codes .exit); work = now (work .exit) }) (trainEnded (record { d = d; nsub = «n_sub»; bits = «sub_bits»; epochs = epochs; n = n; rows = now (rows .entry); draws = now (draws .entry); subs = now (subs .entry); codes = now (codes .entry); work = now (work .entry) })) ⌝ }
+{
+    let t = train_center(
+        d,
+        n_sub,
+        sub_bits,
+        n,
+        rows,
+        draws,
+        epochs as u32,
+        subs,
+        codes,
+        &mut work[..n],
+    );
+    lists::fill_numbers(work, 0);
+    finish(t, subs, codes);
+    t
+}
+
+// Training of the plain index, for any input: its sub-centres and codes, or a refusal.
+pub fn train(
+    d: usize,
+    n_sub: usize,
+    sub_bits: usize,
+    epochs: usize,
+    n: usize,
+    rows: &[f32],
+    draws: &[f64],
+    subs: &mut [f32],
+    codes: &mut [u8],
+    work: &mut [u32],
+) -> Trained
+    ensures { λ r. ⌜ _≡_ {A = TrainOut} (record { answer = r; subs = now (subs .exit); codes = now (codes .exit); work = now (work .exit) }) (trainOutcome (record { d = d; nsub = «n_sub»; bits = «sub_bits»; epochs = epochs; n = n; rows = now (rows .entry); draws = now (draws .entry); subs = now (subs .entry); codes = now (codes .entry); work = now (work .entry) })) ⌝ }
+{
+    let l = TrainLengths {
+        subs: subs.len(),
+        codes: codes.len(),
+        work: work.len(),
+    };
+    let number = train_refusal(d, n_sub, sub_bits, epochs, n, rows, draws, l);
+    if number != 0 {
+        return Trained::Refused(number);
+    }
+    train_ready(
+        d,
+        n_sub,
+        sub_bits,
+        epochs,
+        n,
+        rows,
+        draws,
+        subs,
+        codes,
+        work,
+    )
 }

@@ -1,0 +1,114 @@
+-- The plain training's outcome: the tests, and the two ends.
+use Prim.Native.Nat.{ℕ, zero, suc, _+_, _*_, _≤_, _<_}
+use mathlib.Core.Path.{_≡_, refl, sym, _∙_, ap}
+use mathlib.Core.List.{List, [], _∷_, _++_}
+use mathlib.Core.Bool.{Bool, true, false, cond, not, _&&_}
+use native.Mathlib.Omega.{arith}
+use borrow.Author.Tests.{ltb-false, eqb-true, eqb-false, ne-eqb, not-false}
+use lib.ListN.{length, getD}
+use lib.Dec.{eqb, ltb}
+use lib.Ieee.{Float, nan, binary64, le, lt, ofBits}
+use Rattle.lists.specs.Lists.{fill}
+use Rattle.lists.specs.Tests.{anyOf, every}
+use Rattle.lists.proofs.Tests.{none, or-l, or-r, and-l, every-true}
+use Rattle.metrics.specs.Distance.{zero32}
+use Rattle.pq_params.specs.Bounds.{plainTests, epochTests, badPlain, badEpochs, tooManyRows, centersOf}
+use Rattle.pq_params.specs.Ranges.{coveredOf}
+use Rattle.kmeans.specs.Splits.{NotNegative}
+use Rattle.pq_idx.specs.declared.Trained.{Trained}
+use Rattle.pq_idx.specs.declared.Trained.the-variants.{Done, Refused, OutOfDraws, NotFinite}
+use Rattle.pq_idx.specs.Answers.{ended}
+use Rattle.pq_idx.specs.Refusals.{notLong, anyNotFinite, anyDrawOut, inDrawRange}
+use Rattle.pq_idx.specs.Training.{answerOf}
+use Rattle.pq_idx.specs.Outcomes.{TrainIn, TrainOut, allRows, trainLengths, trainRefusal, trainUnchanged, trainDone, trainZero, trainOutcome}
+use Rattle.pq_idx.specs.TrainInner.{Trainable, Centered}
+use Rattle.pq_idx.specs.TrainRefusal.{trainRefusalBy, subsLeft, codesLeft, trainEnded}
+
+-- ---- the end of the work
+
+-- the answer and the buffers that the walk of the sub-spaces, the zeroing of work and the last step leave
+pub ended-out : (i : TrainIn) (t : Trained) (subs subs' : List Float) (codes codes' work' : List ℕ) → Centered (allRows i) (i .rows) t subs codes
+    → length subs ≡ length (i .subs) → length codes ≡ length (i .codes) → subs' ≡ subsLeft t subs → codes' ≡ codesLeft t codes → work' ≡ fill 0 (length (i .work))
+    → _≡_ {A = TrainOut} (record { answer = t; subs = subs'; codes = codes'; work = work' }) (trainEnded i)
+ended-out i (Done used) subs subs' codes codes' work' c l m e f g = rw (← c .said, e, f, g, c .made used refl, c .coded used refl)
+ended-out i (Refused number) subs subs' codes codes' work' c l m e f g = rw (← c .said, e, f, g, l, m)
+ended-out i (OutOfDraws stage epoch center) subs subs' codes codes' work' c l m e f g = rw (← c .said, e, f, g, l, m)
+ended-out i (NotFinite stage step epoch center) subs subs' codes codes' work' c l m e f g = rw (← c .said, e, f, g, l, m)
+
+-- ---- the tests
+
+pick-l : (b : Bool) (x y : ℕ) → cond b (suc x) y ≡ 0 → b ≡ false
+pick-l true x y h = absurd (omega arith)
+pick-l false x y h = refl
+
+pick-r : (b : Bool) (x y : ℕ) → cond b (suc x) y ≡ 0 → y ≡ 0
+pick-r true x y h = absurd (omega arith)
+pick-r false x y h = h
+
+abbrev pub refusalIn : TrainIn → ℕ
+refusalIn i =
+    trainRefusalBy (i .d) (i .nsub) (i .bits) (i .epochs) (i .n) (i .rows) (i .draws)
+    (record { subs = length (i .subs); codes = length (i .codes); work = length (i .work) })
+
+refusal-is : (i : TrainIn) → refusalIn i ≡ trainRefusal i
+unfolding trainRefusalBy trainRefusal
+refusal-is i = refl
+
+same-long : {A : Type 0} (l : List A) (n : ℕ) → notLong l n ≡ false → length l ≡ n
+same-long l n e = eqb-true (length l) n (not-false (eqb (length l) n) e)
+
+-- draws in range are not negative
+in-range : (draws : List Float) → anyDrawOut draws ≡ false → NotNegative draws
+unfolding anyDrawOut
+in-range draws e k h = and-l _ _ (every-true (λ (i : ℕ). inDrawRange (getD draws i nan)) (length draws) (not-false _ e) k h)
+
+-- what the work may count on
+pub record Ready (i : TrainIn) : Type 0 where
+  pub trainable : Trainable (i .d) (i .nsub) (i .bits) (i .epochs) (i .n) (i .rows) (i .draws)
+  pub subs-long : length (i .subs) ≡ centersOf (i .bits) * coveredOf (i .d) (i .nsub)
+  pub codes-long : length (i .codes) ≡ i .n * i .nsub
+  pub work-long : length (i .work) ≡ i .n + 1024
+
+some : (n : ℕ) → (n ≡ 0 → ⊥) → 0 < n
+some zero h = absurd (h refl)
+some (suc n) h = omega arith
+
+passed : (i : TrainIn) → trainRefusal i ≡ 0 → Ready i
+unfolding trainRefusal
+passed i h =
+    let b = badPlain (i .d) (i .nsub) (i .bits) in
+    let h2 = pick-r (anyOf (plainTests (i .d) (i .nsub) (i .bits) ++ epochTests (i .epochs))) 0 _ h in
+    let h3 = pick-r (eqb (i .n) 0) 1 _ h2 in
+    let h4 = pick-r (tooManyRows (i .n)) 2 _ h3 in
+    let h6 = pick-r (anyOf (trainLengths i)) 3 _ h4 in
+    let h7 = pick-r (anyNotFinite (i .rows)) 5 _ h6 in
+    let p = pick-l (anyOf (plainTests (i .d) (i .nsub) (i .bits) ++ epochTests (i .epochs))) 0 _ h in
+    let l = none (trainLengths i) (pick-l (anyOf (trainLengths i)) 3 _ h4) in
+    record {
+      trainable = record {
+        good = or-l b (badEpochs (i .epochs)) p;
+        few-epochs = ltb-false 1000 (i .epochs) (or-r b (badEpochs (i .epochs)) p);
+        some-row = some (i .n) (eqb-false (i .n) 0 (pick-l (eqb (i .n) 0) 1 _ h2));
+        rows-le = ltb-false 100_001 (i .n) (pick-l (tooManyRows (i .n)) 2 _ h3);
+        rows-long = same-long (i .rows) (i .n * i .d) (l 0);
+        in-range = in-range (i .draws) (pick-l (anyDrawOut (i .draws)) 6 _ h7);
+      };
+      subs-long = same-long (i .subs) (centersOf (i .bits) * coveredOf (i .d) (i .nsub)) (l 1);
+      codes-long = same-long (i .codes) (i .n * i .nsub) (l 2);
+      work-long = same-long (i .work) (i .n + 1024) (l 3);
+    }
+
+pub ready : (i : TrainIn) (number : ℕ) → number ≡ refusalIn i → number ≡ 0 → Ready i
+ready i number e z = passed i (sym (refusal-is i) ∙ sym e ∙ z)
+
+-- ---- the two outcomes
+
+pub out-refused : (i : TrainIn) (number : ℕ) → number ≡ refusalIn i → (number ≡ 0 → ⊥) → trainUnchanged i number ≡ trainOutcome i
+unfolding trainOutcome
+out-refused i number e h = rw (sym (refusal-is i) ∙ sym e, ne-eqb number 0 h)
+
+pub out-worked : (i : TrainIn) (number : ℕ) → number ≡ refusalIn i → number ≡ 0 → trainEnded i ≡ trainOutcome i
+unfolding trainOutcome
+out-worked i number e z =
+    let h : trainRefusal i ≡ 0 = sym (refusal-is i) ∙ sym e ∙ z in
+    rw h
