@@ -121,6 +121,11 @@ pub record CheckOut : Type 0 where
   pub answer : Checked
   pub work : List ℕ
 
+-- the answer's number in document 01
+abbrev pub checkedNumber : Checked → ℕ
+checkedNumber Accepted = 0
+checkedNumber (CheckRefused number) = number
+
 -- Its refusals are 1, 3, 4, then 10, which leaves work zero.
 unfoldable pub checkRefusal : CheckIn → ℕ
 checkRefusal i =
