@@ -1,3 +1,4 @@
+pub mod Refusing
 pub mod TrainingLaws
 pub mod CenterLaws
 pub mod SearchingRefusals

@@ -18,7 +18,8 @@ use Rattle.pq_params.specs.Bounds.{badPlain, tooManyRows, tooMuchAsked, centers
 use Rattle.pq_params.specs.Ranges.{coveredOf}
 use Rattle.pq_idx.specs.declared.Searched.{Searched}
 use Rattle.pq_idx.specs.declared.Searched.the-variants.{Done, Refused}
-use Rattle.pq_idx.specs.Refusals.{notLong, anyNotFinite}
+use Rattle.pq_idx.proofs.Refusing.{pick-l, pick-r, same-long}
+use Rattle.pq_idx.specs.Refusals.{anyNotFinite}
 use Rattle.pq_idx.specs.Results.{Lent, SearchOut, askedOf, unchanged}
 use Rattle.pq_idx.specs.Tables.{Cell, codesSound, cellFinite, candidates}
 use Rattle.pq_idx.specs.Outcomes.{SearchIn, searchLengths, searchRefusal, wholeCell, searchWorked, searchOutcome}
@@ -89,14 +90,6 @@ searching-as rows rows' sums sums' table s e = record {
 
 -- ---- the tests
 
-pick-l : (b : Bool) (x y : ℕ) → cond b (suc x) y ≡ 0 → b ≡ false
-pick-l true x y h = absurd (omega arith)
-pick-l false x y h = refl
-
-pick-r : (b : Bool) (x y : ℕ) → cond b (suc x) y ≡ 0 → y ≡ 0
-pick-r true x y h = absurd (omega arith)
-pick-r false x y h = h
-
 abbrev pub refusalIn : SearchIn → ℕ
 refusalIn i =
     refusalBy (i .d) (i .nsub) (i .bits) (i .n) (i .query) (record {
@@ -127,9 +120,6 @@ passed i h =
       few = pick-l (tooManyRows (i .n)) 2 _ h3;
       lengths = pick-l (anyOf (searchLengths i)) 3 _ h4;
     }
-
-same-long : {A : Type 0} (l : List A) (n : ℕ) → notLong l n ≡ false → length l ≡ n
-same-long l n e = eqb-true (length l) n (not-false (eqb (length l) n) e)
 
 mask-long : (i : SearchIn) → searchRefusal i ≡ 0 → length (i .mask) ≡ i .n
 mask-long i h = same-long (i .mask) (i .n) (none (searchLengths i) (passed i h .lengths) 1)

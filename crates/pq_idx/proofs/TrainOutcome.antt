@@ -18,7 +18,8 @@ use Rattle.kmeans.specs.Splits.{NotNegative}
 use Rattle.pq_idx.specs.declared.Trained.{Trained}
 use Rattle.pq_idx.specs.declared.Trained.the-variants.{Done, Refused, OutOfDraws, NotFinite}
 use Rattle.pq_idx.specs.Answers.{ended}
-use Rattle.pq_idx.specs.Refusals.{notLong, anyNotFinite, anyDrawOut, inDrawRange}
+use Rattle.pq_idx.proofs.Refusing.{pick-l, pick-r, same-long}
+use Rattle.pq_idx.specs.Refusals.{anyNotFinite, anyDrawOut, inDrawRange}
 use Rattle.pq_idx.specs.Training.{answerOf}
 use Rattle.pq_idx.specs.Outcomes.{TrainIn, TrainOut, allRows, trainLengths, trainRefusal, trainUnchanged, trainDone, trainZero, trainOutcome}
 use Rattle.pq_idx.specs.TrainInner.{Trainable, Centered}
@@ -37,14 +38,6 @@ ended-out i (NotFinite stage step epoch center) subs subs' codes codes' work' c 
 
 -- ---- the tests
 
-pick-l : (b : Bool) (x y : ℕ) → cond b (suc x) y ≡ 0 → b ≡ false
-pick-l true x y h = absurd (omega arith)
-pick-l false x y h = refl
-
-pick-r : (b : Bool) (x y : ℕ) → cond b (suc x) y ≡ 0 → y ≡ 0
-pick-r true x y h = absurd (omega arith)
-pick-r false x y h = h
-
 abbrev pub refusalIn : TrainIn → ℕ
 refusalIn i =
     trainRefusalBy (i .d) (i .nsub) (i .bits) (i .epochs) (i .n) (i .rows) (i .draws)
@@ -53,9 +46,6 @@ refusalIn i =
 refusal-is : (i : TrainIn) → refusalIn i ≡ trainRefusal i
 unfolding trainRefusalBy trainRefusal
 refusal-is i = refl
-
-same-long : {A : Type 0} (l : List A) (n : ℕ) → notLong l n ≡ false → length l ≡ n
-same-long l n e = eqb-true (length l) n (not-false (eqb (length l) n) e)
 
 -- draws in range are not negative
 in-range : (draws : List Float) → anyDrawOut draws ≡ false → NotNegative draws
