@@ -123,7 +123,7 @@ fn fill_sub(
 
 // The table of one cell, entry (s, q) at s·K + q: distances of the query, less the residual if there is one, to the cell's
 // sub-centres. Sub-spaces rising, and in each the centres rising: 0, or 11 at the first that is not finite.
-pub fn fill_table(
+fn fill_table(
     d: usize,
     n_sub: usize,
     centers: usize,
@@ -153,7 +153,7 @@ fn wide(code: u8) -> usize
 }
 
 // Whether row m is visible.
-pub fn is_visible(mask: &[u8], m: usize) -> bool
+fn is_visible(mask: &[u8], m: usize) -> bool
     requires { ⌜ m < length (now mask) ⌝ }
     ensures { λ r. ⌜ r ≡ visible (now (mask .entry)) m ⌝ }
 {
@@ -188,7 +188,7 @@ fn codes_below(codes: &[u8], n_sub: usize, centers: usize, m: usize) -> bool
 }
 
 // Whether row m is hidden or its codes are below K.
-pub fn row_sound(mask: &[u8], codes: &[u8], n_sub: usize, centers: usize, m: usize) -> bool
+fn row_sound(mask: &[u8], codes: &[u8], n_sub: usize, centers: usize, m: usize) -> bool
     requires { ⌜ (m < length (now mask)) × (m * «n_sub» + «n_sub» ≤ length (now codes)) ⌝ }
     ensures { λ r. ⌜ r ≡ rowSound (now (mask .entry)) (now (codes .entry)) «n_sub» centers m ⌝ }
 {
@@ -228,7 +228,7 @@ fn row_sum(codes: &[u8], n_sub: usize, centers: usize, table: &[f32], m: usize) 
 }
 
 // One row of a cell: a hidden one is passed over, a sum that is not finite refuses with 11, and any other goes to its place in the results and is counted.
-pub fn visit_row(
+fn visit_row(
     mask: &[u8],
     codes: &[u8],
     n_sub: usize,
@@ -301,7 +301,7 @@ fn walk_rows(
 }
 
 // Every place of the results becomes blank.
-pub fn blank(rows: &mut [u32], sums: &mut [f32])
+fn blank(rows: &mut [u32], sums: &mut [f32])
     requires { ⌜ length (now sums) ≡ length (now rows) ⌝ }
     ensures { λ _. ⌜ Blank (length (now (rows .entry))) (now (rows .exit)) (now (sums .exit)) ⌝ }
 {
