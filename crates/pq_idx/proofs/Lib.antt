@@ -1,7 +1,6 @@
 pub mod Refusing
 pub mod TrainingLaws
 pub mod CenterLaws
-pub mod SearchingRefusals
 pub mod SearchingTables
 pub mod SearchingRows
 pub mod SearchingResults

@@ -1,12 +1,10 @@
--- Document 01's answer numbers, and the values that an answer names.
+-- Document 01's answer numbers, and the values that an answer carries.
 use Prim.Native.Nat.{ℕ}
-use mathlib.Core.List.{List, [], _∷_}
 use Rattle.kmeans.specs.declared.Step.{Step}
 use Rattle.kmeans.specs.declared.Step.the-variants.{Start, Averaging, Splitting}
 use Rattle.kmeans.specs.declared.Clustered.{Clustered}
 use Rattle.kmeans.specs.declared.Clustered.the-variants.{Done as ClusteredDone, OutOfDraws as ClusteredOut, NotFinite as ClusteredBroken}
 use Rattle.pq_idx.specs.declared.Stage.{Stage}
-use Rattle.pq_idx.specs.declared.Stage.the-variants.{Coarse, Sub}
 use Rattle.pq_idx.specs.declared.Trained.{Trained}
 use Rattle.pq_idx.specs.declared.Trained.the-variants.{Done, Refused, OutOfDraws, NotFinite}
 use Rattle.pq_idx.specs.declared.Searched.{Searched}
@@ -31,18 +29,6 @@ abbrev pub stepNumber : Step → ℕ
 stepNumber Start = 0
 stepNumber Averaging = 1
 stepNumber Splitting = 2
-
--- a stage's values: 0 for coarse; 1, cell and sub-space else
-abbrev pub stageValues : Stage → List ℕ
-stageValues Coarse = 0 ∷ 0 ∷ 0 ∷ []
-stageValues (Sub cell sub) = 1 ∷ cell ∷ sub ∷ []
-
--- the place that 8 and 9 name: stage, then epoch and centre, and for 9 the step
-abbrev pub placeValues : Trained → List ℕ
-placeValues (Done used) = []
-placeValues (Refused number) = []
-placeValues (OutOfDraws stage epoch center) = epoch ∷ center ∷ stageValues stage
-placeValues (NotFinite stage step epoch center) = stepNumber step ∷ epoch ∷ center ∷ stageValues stage
 
 -- the answer of one k-means, with its stage
 abbrev pub staged : Stage → Clustered → Trained

@@ -1,4 +1,5 @@
 pub mod Bounds
 pub mod RangeRule
+pub mod Numbers
 pub mod RangeList
 pub mod Examples

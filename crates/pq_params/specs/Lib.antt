@@ -2,3 +2,4 @@ pub mod Bounds
 pub mod Ranges
 pub mod Defaults
 pub mod RangesRight
+pub mod Lengths

@@ -5,6 +5,7 @@ ghost use Prim.Native.Nat.{_≤_, min};
 ghost use Rattle.pq_params.specs.Defaults.{plainOf, celledOf, plainDefault, celledDefault};
 ghost use Rattle.pq_params.specs.Bounds.{badRange, badPlain, badCelled, badEpochs, tooManyRows, tooManyDraws, tooMuchAsked, centersOf};
 ghost use Rattle.pq_params.specs.Ranges.{widthOf, beginOf, coveredOf, rangesUsed, pairAt, rangesOf};
+ghost use Rattle.pq_params.specs.Lengths.{refusedLengths, lengthsOf};
 
 // The plain index's parameters.
 pub struct PQParams {
@@ -216,7 +217,7 @@ fn ranges_used(d: usize, n_sub: usize) -> usize
 }
 
 // Place i of the fixed list: range i's begin and end, or 0, 0.
-fn range_at(d: usize, n_sub: usize, i: usize) -> [usize; 2]
+pub fn range_at(d: usize, n_sub: usize, i: usize) -> [usize; 2]
     ensures { λ r. ⌜ r ≡ pairAt d «n_sub» i ⌝ }
 {
     if i < ranges_used(d, n_sub) {
@@ -236,4 +237,50 @@ pub fn ranges(d: usize, n_sub: usize) -> [[usize; 2]; 64]
         out[i] = range_at(d, n_sub, i);
     }
     out
+}
+
+// The lengths of a plain index's buffers, in elements. The number is 0, or the refusal of D, n_sub, sub_bits and n; then all lengths are 0.
+#[repr(C)]
+pub struct PlainLengths {
+    pub number: u32,
+    pub rows: usize,
+    pub subs: usize,
+    pub codes: usize,
+    pub work: usize,
+    pub table: usize,
+}
+
+// The lengths of a refusal.
+fn refused_lengths(number: u32) -> PlainLengths
+    ensures { λ r. ⌜ r ≡ refusedLengths number ⌝ }
+{
+    PlainLengths {
+        number,
+        rows: 0,
+        subs: 0,
+        codes: 0,
+        work: 0,
+        table: 0,
+    }
+}
+
+// How long each buffer of a plain index of n rows must be.
+pub fn plain_lengths(d: usize, n_sub: usize, sub_bits: usize, n: usize) -> PlainLengths
+    ensures { λ r. ⌜ r ≡ lengthsOf d «n_sub» «sub_bits» n ⌝ }
+{
+    if bad_plain(d, n_sub, sub_bits) {
+        return refused_lengths(1);
+    }
+    if too_many_rows(n) {
+        return refused_lengths(3);
+    }
+    let k = centers(sub_bits);
+    PlainLengths {
+        number: 0,
+        rows: n * d,
+        subs: k * covered(d, n_sub),
+        codes: n * n_sub,
+        work: n + 1024,
+        table: n_sub * k,
+    }
 }

@@ -1,6 +1,6 @@
 -- `bad_lengths`: the products fit, by the bounds of tests 1 and 3.
 use borrow.Author.Needs.{needs}
-use Rattle.pq_idx.proofs.SearchingRefusals.{Numbers, numbers, fits-mul}
+use Rattle.pq_params.proofs.Numbers.{Numbers, numbers, fits-mul}
 use lib.Dec.{lit<}
 use borrow.Author.Tests.{ltb-false}
 use native.Mathlib.Omega.{arith}

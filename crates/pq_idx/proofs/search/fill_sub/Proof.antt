@@ -1,7 +1,7 @@
 -- `fill_sub`: the parts of the query, the residual and the sub-centres are those of the sub-space.
 use borrow.Author.Needs.{needs}
 use Rattle.pq_idx.proofs.SearchingTables.{range-in, centers-in, table-in, stored-at}
-use Rattle.pq_idx.proofs.SearchingRefusals.{fits-mul}
+use Rattle.pq_params.proofs.Numbers.{fits-mul}
 use Rattle.pq_params.specs.Ranges.{beginOf, widthOf}
 use Rattle.lists.specs.Lists.{putPart}
 use lib.Dec.{lit<}

@@ -2,7 +2,7 @@
 use borrow.Author.Needs.{needs}
 use Rattle.pq_idx.proofs.SearchingCell.{answered-damaged, answered-broken, answered-hidden, answered-walked, nothing-in, sound-here, table-here, sums-here, candidates-here}
 use Rattle.pq_idx.proofs.SearchingTables.{mark-zero, mark-some}
-use Rattle.pq_idx.proofs.SearchingRefusals.{Numbers, numbers}
+use Rattle.pq_params.proofs.Numbers.{Numbers, numbers}
 use Rattle.pq_idx.specs.SearchInner.{plainCell, rowSound, tableSum}
 use Rattle.pq_idx.specs.Tables.{codesSound, visibleRows, tableFinite}
 use Rattle.pq_params.specs.Bounds.{centersOf}

@@ -3,7 +3,7 @@ use Prim.Native.Nat.{_≤_, _+_}
 use native.Mathlib.Omega.{arith}
 use borrow.Author.Tests.{ltb-false}
 use lib.Dec.{lit<}
-use Rattle.pq_idx.proofs.SearchingRefusals.{Numbers, numbers, fits-mul}
+use Rattle.pq_params.proofs.Numbers.{Numbers, numbers, fits-mul}
 use Rattle.pq_idx.proofs.training.bad_train_lengths.Statement.{statement}
 use Rattle.pq_idx.proofs.training.bad_train_lengths.Tie as tie
 use Rattle.pq_idx.proofs.training.bad_train_lengths.Reads as reads

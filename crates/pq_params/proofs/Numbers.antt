@@ -1,16 +1,14 @@
--- Laws on tests 1 to 6: the numbers' bounds, products that fit, and what the tests leave where none refuses.
-use Prim.Native.Nat.{ℕ, _+_, _*_, _^_, _≤_, _<_}
-use mathlib.Core.Path.{_≡_, refl, sym, _∙_, ap}
-use mathlib.Core.Bool.{Bool, true, false, not, cond}
+-- The plain index's numbers where test 1 passes, and products of them that fit.
+use Prim.Native.Nat.{ℕ, _*_, _^_, _≤_, _<_}
+use mathlib.Core.Path.{_≡_}
+use mathlib.Core.Bool.{false}
 use native.Mathlib.Nat.{mul-le-mul, lt-of-le-of-lt}
-use native.Mathlib.Omega.{arith}
-use lib.Dec.{lit<}
 use mir.Syntax.{w64}
 use mir.Val.{Fits}
 use Rattle.pq_params.specs.Bounds.{badRange, badPlain, centersOf}
 use Rattle.pq_params.specs.Ranges.{coveredOf}
 use Rattle.pq_params.proofs.Bounds.{plain-bounds, range-bounds, centers-some, centers-most}
 use Rattle.pq_params.proofs.RangeRule.{covered-within}
 
 -- a product of two numbers within their bounds fits
 pub fits-mul : (a b : ℕ) {m n : ℕ} → a ≤ m → b ≤ n → m * n < 2 ^ 64 → Fits w64 (a * b)

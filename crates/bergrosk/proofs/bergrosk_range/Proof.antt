@@ -1,0 +1,53 @@
+use borrow.Author.Needs.{needs}
+use Prim.Native.Nat.{ℕ}
+use mathlib.Core.Path.{_≡_, refl, _∙_, ap}
+use lib.ListN.{getD}
+use Rattle.pq_params.specs.Bounds.{badRange}
+use Rattle.pq_params.specs.Ranges.{pairAt}
+use Rattle.bergrosk.specs.declared.RangeAnswer.{RangeAnswer}
+use Rattle.bergrosk.specs.Face.{rangeAnswerOf}
+use mathlib.Core.Bool.{Bool, true, false, cond}
+use mir.Val.{boolByte}
+use Rattle.bergrosk.proofs.bergrosk_range.Statement.{statement}
+use Rattle.bergrosk.proofs.bergrosk_range.Tie as tie
+use Rattle.bergrosk.proofs.bergrosk_range.Reads as reads
+use Rattle.bergrosk.proofs.bergrosk_range.Lts as lts
+use Rattle.pq_params.proofs.bad_range.Reads as bad-range-reads
+use Rattle.pq_params.proofs.range_at.Reads as range-at-reads
+
+-- what a cast makes of a test
+byte-is : (b : Bool) → boolByte b ≡ cond b 1 0
+byte-is true = refl
+byte-is false = refl
+
+-- an answer whose number is the test's byte
+abbrev numbered : ℕ → ℕ → ℕ → ℕ → RangeAnswer
+numbered d nsub i number = record { number = number; begin = getD (pairAt d nsub i) 0 0; end = getD (pairAt d nsub i) 1 0 }
+
+faced : (d nsub i : ℕ) (b : Bool) → b ≡ badRange d nsub → numbered d nsub i (boolByte b) ≡ rangeAnswerOf d nsub i
+faced d nsub i b e = ap (numbered d nsub i) (byte-is b ∙ ap (λ (x : Bool). cond x 1 0) e)
+
+range-at-requires : tie.Need-range-at-requires
+range-at-requires c κs = search needs
+
+bad-range-requires : tie.Need-bad-range-requires
+bad-range-requires c κs = search needs
+
+cast-t7 : tie.Need-cast-t7
+cast-t7 c = search needs
+
+array-read-t10 : tie.Need-array-read-t10
+array-read-t10 c = search needs
+
+array-read-t13 : tie.Need-array-read-t13
+array-read-t13 c = search needs
+
+returns : tie.Need-returns
+returns c =
+    let a = c .before .before .args in
+    rw (c .before .range-at .ensures) (faced (a .d) (a .n-sub) (a .i) (c .bad-range .result) (c .bad-range .ensures))
+
+pub bergrosk-range-spec : {M : Type 1} → statement M
+bergrosk-range-spec =
+    tie.close
+    (tie.spec range-at-requires bad-range-requires cast-t7 array-read-t10 array-read-t13 returns)
