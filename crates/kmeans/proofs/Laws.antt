@@ -64,10 +64,14 @@ pub nearest-one : (d : ℕ → Worked) → nearest d 1 ≡ 0
 unfolding nearest
 nearest-one d = same-either (lessOf (d 0) (d 0))
 
--- one more centre
-pub nearest-step : (d : ℕ → Worked) (i best next : ℕ) → best ≡ nearest d i → next ≡ cond (lessOf (d i) (d best)) i best → next ≡ nearest d (i + 1)
+-- one more centre: it is nearer than the best so far, or it is not
+pub nearest-took : (d : ℕ → Worked) (i best : ℕ) (least rival : Worked) → best ≡ nearest d i → least ≡ d best → rival ≡ d i → lessOf rival least ≡ true → i ≡ nearest d (i + 1)
 unfolding nearest
-nearest-step d i best next e f = f ∙ rw (e, add-one)
+nearest-took d i best least rival e f g h = rw (add-one, ← e, ← f, ← g, h)
+
+pub nearest-kept : (d : ℕ → Worked) (i best : ℕ) (least rival : Worked) → best ≡ nearest d i → least ≡ d best → rival ≡ d i → lessOf rival least ≡ false → best ≡ nearest d (i + 1)
+unfolding nearest
+nearest-kept d i best least rival e f g h = rw (add-one, ← e, ← f, ← g, h)
 
 pub distance-ext : (x y c d : ℕ → Float) (w : ℕ) → ((j : ℕ) → j < w → x j ≡ y j) → ((j : ℕ) → j < w → c j ≡ d j) → distance x c w ≡ distance y d w
 distance-ext x y c d w e f = ap worked (squared-ext x y c d w e f)

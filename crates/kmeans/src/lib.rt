@@ -96,24 +96,19 @@ fn distance_to(x: &[f32], residual: &[f32], has: bool, centers: &[f32], i: usize
     metrics::distance(x, residual, has, c)
 }
 
-// Centre i if it is strictly nearer than the best so far, and else that one.
-fn better(x: &[f32], residual: &[f32], has: bool, centers: &[f32], i: usize, best: usize) -> usize
-    requires { ⌜ (length (now residual) ≡ length (now x)) × (i * length (now x) + length (now x) ≤ length (now centers)) × (best * length (now x) + length (now x) ≤ length (now centers)) ⌝ }
-    ensures { λ r. ⌜ r ≡ cond (lessOf (distanceTo (valueIn has (now (x .entry)) (now (residual .entry))) (now (centers .entry)) (length (now (x .entry))) i) (distanceTo (valueIn has (now (x .entry)) (now (residual .entry))) (now (centers .entry)) (length (now (x .entry))) best)) i best ⌝ }
-{
-    let rival = distance_to(x, residual, has, centers, i);
-    let least = distance_to(x, residual, has, centers, best);
-    if less(rival, least) { i } else { best }
-}
-
 // The centre, of n, that the values of x are assigned to: from centre 0, a later one replaces the best only if strictly nearer.
 pub fn nearest(x: &[f32], residual: &[f32], has: bool, centers: &[f32], n: usize) -> usize
     requires { ⌜ (length (now residual) ≡ length (now x)) × (length (now centers) ≡ n * length (now x)) × (0 < n) ⌝ }
     ensures { λ r. ⌜ r ≡ chosen (valueIn has (now (x .entry)) (now (residual .entry))) (now (centers .entry)) (length (now (x .entry))) n ⌝ }
 {
     let mut best = 0;
+    let mut least = distance_to(x, residual, has, centers, 0);
     for i in 1..n {
-        best = better(x, residual, has, centers, i, best);
+        let rival = distance_to(x, residual, has, centers, i);
+        if less(rival, least) {
+            best = i;
+            least = rival;
+        }
     }
     best
 }

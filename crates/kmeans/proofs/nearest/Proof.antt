@@ -3,35 +3,44 @@ use Prim.Native.Nat.{ℕ, suc, _+_, _*_, _-_, _≤_, _<_}
 use mathlib.Core.Path.{_≡_, refl, sym, _∙_, ap}
 use native.Mathlib.Omega.{arith}
 use native.Mathlib.Numerals.{add-one}
-use lib.ListN.{length, getD, drop, take}
+use lib.ListN.{length}
+use mathlib.Core.Logic.{⊎-elim}
+use Rattle.metrics.specs.declared.Worked.{Worked}
 use Rattle.lists.proofs.Joins.{within}
 use Rattle.metrics.specs.Distance.{valueIn}
 use Rattle.kmeans.specs.Kmeans.{distanceTo, nearest}
-use Rattle.kmeans.proofs.Laws.{nearest-lt, nearest-one, nearest-step}
-use native.Mathlib.Nat.{lt-of-lt-of-le}
+use Rattle.kmeans.proofs.Laws.{nearest-one, nearest-took, nearest-kept}
 use Rattle.kmeans.proofs.nearest.Statement.{statement}
 use Rattle.kmeans.proofs.nearest.Tie as tie
 use Rattle.kmeans.proofs.nearest.Reads as reads
 use Rattle.kmeans.proofs.nearest.Lts as lts
-use Rattle.kmeans.proofs.better.Reads as better-reads
+use Rattle.kmeans.proofs.distance_to.Reads as distance-to-reads
+use Rattle.kmeans.proofs.less.Reads as less-reads
 
 abbrev Inv-loop : tie.InvT-loop
-Inv-loop x residual has centers n best₀ i₀ best i = (0 < i) × (i ≤ n) × (best ≡ nearest (distanceTo (valueIn has x residual) centers (length x)) i)
+Inv-loop x residual has centers n best₀ least₀ i₀ best least i =
+    (0 < i) × (i ≤ n)
+    × (best ≡ nearest (distanceTo (valueIn has x residual) centers (length x)) i)
+    × (least ≡ distanceTo (valueIn has x residual) centers (length x) best)
 
 abbrev μ-loop : tie.MeasureT-loop
-μ-loop x residual has centers n best₀ i₀ best i = n - i
+μ-loop x residual has centers n best₀ least₀ i₀ best least i = n - i
+
+distance-to-requires : tie.Need-distance-to-requires Inv-loop μ-loop
+distance-to-requires c κs =
+    let a = c .before .before .before .args in
+    (search needs, omega (arith, within 0 (a .n) (length (a .x .now)) (search needs)))
 
 loop-holds : tie.Need-loop-holds Inv-loop μ-loop
-loop-holds c = (search needs, search needs, sym (nearest-one _))
+loop-holds c = (search needs, search needs, sym (nearest-one _), search needs)
 
-better-requires : tie.Need-better-requires Inv-loop μ-loop
-better-requires c κs =
-    let s = c .before .before .before .before .before in
-    let n = s .args .n in
-    let w = length (s .args .x .now) in
-    let i = c .before .loop .i in
-    let b : c .before .loop .best < n = rw (c .before .loop .inv .2) (lt-of-lt-of-le (nearest-lt _ i (c .before .loop .inv .0)) (c .before .loop .inv .1)) in
-    (search needs, omega (arith, within i n w (c .loop-test .taken)), omega (arith, within (c .before .loop .best) n w b))
+distance-to-requires-2 : tie.Need-distance-to-requires-2 Inv-loop μ-loop
+distance-to-requires-2 c κs =
+    let a = c .before .before .before .before .before .before .args in
+    (search needs, omega (arith, within (c .before .loop .i) (a .n) (length (a .x .now)) (c .loop-test .taken)))
+
+less-requires : tie.Need-less-requires Inv-loop μ-loop
+less-requires c κs = search needs
 
 add-i : tie.Need-add-i Inv-loop μ-loop
 add-i c = search needs
@@ -40,14 +49,36 @@ loop-less : tie.Need-loop-less Inv-loop μ-loop
 loop-less c = search needs
 
 loop-again : tie.Need-loop-again Inv-loop μ-loop
-loop-again c = (search needs, search needs, nearest-step _ _ _ _ (c .before .before .loop .inv .2) (c .better .ensures))
+loop-again c =
+    let s = c .before .before .before .before .loop in
+    let a = c .before .before .before .before .before .before .before .before .before .args in
+    let d : ℕ → Worked = distanceTo (valueIn (a .has) (a .x .now) (a .residual .now)) (a .centers .now) (length (a .x .now)) in
+    let rival = c .before .before .distance-to2 .result in
+    let r : rival ≡ d (s .i) = c .before .before .distance-to2 .ensures in
+    let next : (c .if1 .best ≡ nearest d (s .i + 1)) × (c .if1 .least ≡ d (c .if1 .best)) =
+    ⊎-elim
+    (λ w. (w .1 ∙ nearest-took d (s .i) (s .best) (s .least) rival (s .inv .2) (s .inv .3) r (sym (c .before .less .ensures) ∙ w .0 .taken), w .2 ∙ r ∙ ap d (sym (w .1))))
+    (λ w. (w .1 ∙ nearest-kept d (s .i) (s .best) (s .least) rival (s .inv .2) (s .inv .3) r (sym (c .before .less .ensures) ∙ w .0 .left), w .2 ∙ s .inv .3 ∙ ap d (sym (w .1))))
+    (c .if1 .came) in
+    (search needs, search needs, next .0, next .1)
 
 returns : tie.Need-returns Inv-loop μ-loop
 returns c =
-    let e : c .before .loop .i ≡ c .before .before .before .before .before .args .n = omega arith in
-    cc
+    let a = c .before .before .before .before .before .before .args in
+    let e : c .before .loop .i ≡ a .n = omega (arith, c .loop-test .left, c .before .loop .inv .1) in
+    rw e at (c .before .loop .inv .2)
 
 pub nearest-spec : {M : Type 1} → statement M
 nearest-spec =
     tie.close
-    (tie.spec Inv-loop μ-loop loop-holds better-requires add-i loop-less loop-again returns)
+    (tie.spec
+    Inv-loop
+    μ-loop
+    distance-to-requires
+    loop-holds
+    distance-to-requires-2
+    less-requires
+    add-i
+    loop-less
+    loop-again
+    returns)
