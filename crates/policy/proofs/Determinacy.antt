@@ -5,6 +5,10 @@ use mathlib.Core.List.{List}
 use Rattle.pq_params.specs.Ranges.{rangesOf}
 use Rattle.pq_idx.specs.Results.{SearchOut}
 use Rattle.pq_idx.specs.Outcomes as Plain
+use Rattle.pq_params.specs.declared.PlainLengths.{PlainLengths}
+use Rattle.pq_params.specs.Lengths.{lengthsOf}
+use Rattle.bergrosk.specs.declared.RangeAnswer.{RangeAnswer}
+use Rattle.bergrosk.specs.Face.{TrainFace, trainFaced, SearchFace, searchFaced, rangeAnswerOf}
 use Rattle.ivfpq_idx.specs.Training.{TrainIn}
 use Rattle.ivfpq_idx.specs.Outcomes.{TrainOut, trainOutcome, CheckIn, CheckOut, checkOutcome, SearchIn, searchOutcome}
 
@@ -28,3 +32,15 @@ check-determined = determined checkOutcome
 
 pub celled-search-determined : (i : SearchIn) (x y : SearchOut) → x ≡ searchOutcome i → y ≡ searchOutcome i → x ≡ y
 celled-search-determined = determined searchOutcome
+
+pub faced-range-determined : (d nsub i : ℕ) (x y : RangeAnswer) → x ≡ rangeAnswerOf d nsub i → y ≡ rangeAnswerOf d nsub i → x ≡ y
+faced-range-determined d nsub = determined (rangeAnswerOf d nsub)
+
+pub lengths-determined : (d nsub bits n : ℕ) (x y : PlainLengths) → x ≡ lengthsOf d nsub bits n → y ≡ lengthsOf d nsub bits n → x ≡ y
+lengths-determined d nsub bits = determined (lengthsOf d nsub bits)
+
+pub faced-training-determined : (i : Plain.TrainIn) (x y : TrainFace) → x ≡ trainFaced i → y ≡ trainFaced i → x ≡ y
+faced-training-determined = determined trainFaced
+
+pub faced-search-determined : (i : Plain.SearchIn) (x y : SearchFace) → x ≡ searchFaced i → y ≡ searchFaced i → x ≡ y
+faced-search-determined = determined searchFaced
