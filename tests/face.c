@@ -218,6 +218,43 @@ static void refused_searches(void) {
     EXPECT(a.number == 0 && a.found == 0 && a.scored == 0 && holds(&s, 3, blanks, zeros));
 }
 
+/* The largest training and search: rows, draws and results at their bounds, and one past each. */
+static void bounds(void) {
+    enum { MOST = 100001, DRAWS = 16777216, K = 4096 };
+    float *rows = calloc(MOST + 1, sizeof *rows), subs[2], query[] = {0}, table[2];
+    uint8_t *codes = calloc(MOST + 1, 1), *mask = calloc(MOST + 1, 1);
+    uint32_t *work = calloc(MOST + 1 + 1024, sizeof *work), *found = calloc(K + 1, sizeof *found);
+    float *sums = calloc(K + 1, sizeof *sums);
+    double *draws = calloc(DRAWS + 1, sizeof *draws);
+    if (!rows || !codes || !mask || !work || !found || !sums || !draws) {
+        EXPECT(!"memory for the bounds");
+        return;
+    }
+    for (size_t i = 0; i < MOST; i++) {
+        rows[i] = (float)(i % 1000);
+        mask[i] = 1;
+    }
+    bergrosk_train_answer t = bergrosk_plain_train(1, 1, 1, 2, MOST, rows, MOST, draws, DRAWS, subs, 2,
+        codes, MOST, work, MOST + 1024);
+    EXPECT(t.number == 0);
+    EXPECT(bergrosk_plain_train(1, 1, 1, 2, MOST, rows, MOST, draws, DRAWS + 1, subs, 2, codes, MOST,
+               work, MOST + 1024)
+               .number == 4);
+    EXPECT(bergrosk_plain_train(1, 1, 1, 2, MOST + 1, rows, MOST + 1, draws, 0, subs, 2, codes, MOST + 1,
+               work, MOST + 1025)
+               .number == 3);
+    bergrosk_search_answer s = bergrosk_plain_search(1, 1, 1, MOST, query, 1, mask, MOST, subs, 2, codes,
+        MOST, found, K, sums, K, table, 2);
+    EXPECT(s.number == 0 && s.found == K && s.scored == MOST && found[0] == 0 && found[1] == 1);
+    EXPECT(bergrosk_plain_search(1, 1, 1, MOST, query, 1, mask, MOST, subs, 2, codes, MOST, found, K + 1,
+               sums, K + 1, table, 2)
+               .number == 5);
+    EXPECT(bergrosk_plain_search(1, 1, 1, MOST + 1, query, 1, mask, MOST + 1, subs, 2, codes, MOST + 1,
+               found, K, sums, K, table, 2)
+               .number == 3);
+    free(rows), free(codes), free(mask), free(work), free(found), free(sums), free(draws);
+}
+
 int main(void) {
     ranges();
     lengths();
@@ -225,6 +262,7 @@ int main(void) {
     refused_trainings();
     searches();
     refused_searches();
+    bounds();
     printf("face: %d of %d tests passed\n", passed, passed + failed);
     return failed != 0;
 }
