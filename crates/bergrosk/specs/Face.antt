@@ -8,12 +8,13 @@ use Rattle.pq_params.specs.Bounds.{badRange}
 use Rattle.pq_params.specs.Ranges.{pairAt}
 use Rattle.kmeans.specs.declared.Step.{Step}
 use Rattle.kmeans.specs.declared.Step.the-variants.{Splitting}
-use Rattle.pq_idx.specs.declared.Stage.{Stage}
-use Rattle.pq_idx.specs.declared.Stage.the-variants.{Coarse, Sub}
-use Rattle.pq_idx.specs.declared.Trained.{Trained}
-use Rattle.pq_idx.specs.declared.Trained.the-variants.{Done, Refused, OutOfDraws, NotFinite}
+use Rattle.pq_train.specs.declared.Stage.{Stage}
+use Rattle.pq_train.specs.declared.Stage.the-variants.{Coarse, Sub}
+use Rattle.pq_train.specs.declared.Trained.{Trained}
+use Rattle.pq_train.specs.declared.Trained.the-variants.{Done, Refused, OutOfDraws, NotFinite}
 use Rattle.pq_idx.specs.declared.Searched.{Searched}
-use Rattle.pq_idx.specs.Answers.{trainedNumber, drawsUsed, stepNumber, searchedNumber, foundOf, scoredOf}
+use Rattle.pq_train.specs.Answers.{trainedNumber, drawsUsed, stepNumber}
+use Rattle.pq_idx.specs.Answers.{searchedNumber, foundOf, scoredOf}
 use Rattle.pq_idx.specs.Results.{SearchOut}
 use Rattle.pq_idx.specs.Outcomes.{TrainIn, TrainOut, trainOutcome, SearchIn, searchOutcome}
 use Rattle.bergrosk.specs.declared.Place.{Place}

@@ -2,13 +2,13 @@
 // A slice arrives as a pointer and a length. No function asks anything of what it is lent.
 ghost use mathlib.Core.Path.{_≡_};
 ghost use Rattle.pq_params.specs.Lengths.{lengthsOf};
-ghost use Rattle.pq_idx.specs.Answers.{stepNumber};
+ghost use Rattle.pq_train.specs.Answers.{stepNumber};
 ghost use Rattle.bergrosk.specs.Face.{noPlace, placeAt, trainAnswerOf, searchAnswerOf, rangeAnswerOf, TrainFace, trainFaced, SearchFace, searchFaced};
 use kmeans::Step;
 use pq_idx::Searched;
-use pq_idx::Stage;
-use pq_idx::Trained;
 use pq_params::PlainLengths;
+use pq_train::Stage;
+use pq_train::Trained;
 
 // Where a training was refused with 8 or 9; all zero in every other answer.
 #[repr(C)]

@@ -11,11 +11,11 @@ use Rattle.metrics.specs.Distance.{zero32}
 use Rattle.pq_params.specs.Bounds.{centersOf}
 use Rattle.pq_params.specs.Ranges.{coveredOf}
 use Rattle.kmeans.specs.Kmeans.{Task, train, chosenAt}
-use Rattle.pq_idx.specs.declared.Trained.{Trained}
-use Rattle.pq_idx.specs.declared.Trained.the-variants.{Done}
-use Rattle.pq_idx.specs.declared.Stage.the-variants.{Coarse}
-use Rattle.pq_idx.specs.Answers.{staged, goOn, drawsUsed}
-use Rattle.pq_idx.specs.Training.{Listed, rowAt, answerOf, subCenters, codeOf}
+use Rattle.pq_train.specs.declared.Trained.{Trained}
+use Rattle.pq_train.specs.declared.Trained.the-variants.{Done}
+use Rattle.pq_train.specs.declared.Stage.the-variants.{Coarse}
+use Rattle.pq_train.specs.Answers.{staged, goOn, drawsUsed}
+use Rattle.pq_train.specs.Training.{Listed, rowAt, answerOf, subCenters, codeOf}
 
 pub record TrainIn : Type 0 where
   pub d : ℕ

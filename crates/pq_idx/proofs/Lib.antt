@@ -1,6 +1,5 @@
 pub mod Refusing
 pub mod TrainingLaws
-pub mod CenterLaws
 pub mod SearchingTables
 pub mod SearchingRows
 pub mod SearchingResults

@@ -22,7 +22,7 @@ use Rattle.pq_params.specs.Bounds.{centersOf}
 use Rattle.pq_params.specs.Ranges.{beginOf, widthOf, coveredOf}
 use Rattle.pq_idx.specs.declared.Searched.{Searched}
 use Rattle.pq_idx.specs.declared.Searched.the-variants.{Done, Refused}
-use Rattle.pq_idx.specs.Training.{onRange}
+use Rattle.pq_train.specs.Training.{onRange}
 use Rattle.pq_idx.specs.Tables.{Cell, visible, visibleRows, codeAt, ofAll, codesSound, subCoordinate, entryAt, tableFinite, sumAt, sumsFinite, cellFinite, candidates}
 use Rattle.pq_idx.specs.SearchInner.{finiteAt, allFiniteAt, stretchCoordinate, stretchEntry, unless, upTo, shownOf, codeUnder, codesUnder, rowSound, tableTerm, tableSum, candidateBy, candidatesBy, Walked, afterRows, plainCell, Answered, cellAnswer}
 use Rattle.pq_idx.proofs.SearchingRows.{up-yes, up-no, unless-kept}

@@ -21,7 +21,7 @@ use Rattle.metrics.proofs.Laws.{squared-ext}
 use Rattle.pq_params.specs.Ranges.{beginOf, widthOf, coveredOf}
 use Rattle.pq_params.proofs.RangeRule.{begin-next, begin-mono, begin-within}
 use Rattle.kmeans.specs.Kmeans.{coordinate}
-use Rattle.pq_idx.specs.Training.{onRange}
+use Rattle.pq_train.specs.Training.{onRange}
 use Rattle.pq_idx.specs.SearchInner.{markNumber, finiteAt, allFiniteAt, Stored, StoredAt, Tabled, distanceAt, stretchCoordinate, stretchEntry, Tabling}
 
 -- ---- marks

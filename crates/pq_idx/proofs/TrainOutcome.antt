@@ -1,4 +1,4 @@
--- The plain training's outcome: the tests, and the two ends.
+-- The plain training's outcome: the tests, and what follows from the number that they answer.
 use Prim.Native.Nat.{ℕ, zero, suc, _+_, _*_, _≤_, _<_}
 use mathlib.Core.Path.{_≡_, refl, sym, _∙_, ap}
 use mathlib.Core.List.{List, [], _∷_, _++_}
@@ -15,26 +15,15 @@ use Rattle.metrics.specs.Distance.{zero32}
 use Rattle.pq_params.specs.Bounds.{plainTests, epochTests, badPlain, badEpochs, tooManyRows, centersOf}
 use Rattle.pq_params.specs.Ranges.{coveredOf}
 use Rattle.kmeans.specs.Splits.{NotNegative}
-use Rattle.pq_idx.specs.declared.Trained.{Trained}
-use Rattle.pq_idx.specs.declared.Trained.the-variants.{Done, Refused, OutOfDraws, NotFinite}
-use Rattle.pq_idx.specs.Answers.{ended}
+use Rattle.pq_train.specs.declared.Trained.{Trained}
+use Rattle.pq_train.specs.declared.Trained.the-variants.{Done, Refused, OutOfDraws, NotFinite}
+use Rattle.pq_train.specs.Answers.{ended}
 use Rattle.pq_idx.proofs.Refusing.{pick-l, pick-r, same-long}
 use Rattle.pq_idx.specs.Refusals.{anyNotFinite, anyDrawOut, inDrawRange}
-use Rattle.pq_idx.specs.Training.{answerOf}
+use Rattle.pq_train.specs.Training.{answerOf}
 use Rattle.pq_idx.specs.Outcomes.{TrainIn, TrainOut, allRows, trainLengths, trainRefusal, trainUnchanged, trainDone, trainZero, trainOutcome}
-use Rattle.pq_idx.specs.TrainInner.{Trainable, Centered}
-use Rattle.pq_idx.specs.TrainRefusal.{trainRefusalBy, subsLeft, codesLeft, trainEnded}
-
--- ---- the end of the work
-
--- the answer and the buffers that the walk of the sub-spaces, the zeroing of work and the last step leave
-pub ended-out : (i : TrainIn) (t : Trained) (subs subs' : List Float) (codes codes' work' : List ℕ) → Centered (allRows i) (i .rows) t subs codes
-    → length subs ≡ length (i .subs) → length codes ≡ length (i .codes) → subs' ≡ subsLeft t subs → codes' ≡ codesLeft t codes → work' ≡ fill 0 (length (i .work))
-    → _≡_ {A = TrainOut} (record { answer = t; subs = subs'; codes = codes'; work = work' }) (trainEnded i)
-ended-out i (Done used) subs subs' codes codes' work' c l m e f g = rw (← c .said, e, f, g, c .made used refl, c .coded used refl)
-ended-out i (Refused number) subs subs' codes codes' work' c l m e f g = rw (← c .said, e, f, g, l, m)
-ended-out i (OutOfDraws stage epoch center) subs subs' codes codes' work' c l m e f g = rw (← c .said, e, f, g, l, m)
-ended-out i (NotFinite stage step epoch center) subs subs' codes codes' work' c l m e f g = rw (← c .said, e, f, g, l, m)
+use Rattle.pq_idx.specs.TrainInner.{Trainable}
+use Rattle.pq_idx.specs.TrainRefusal.{trainRefusalBy, trainEnded}
 
 -- ---- the tests
 

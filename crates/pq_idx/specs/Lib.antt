@@ -1,5 +1,4 @@
 pub mod Answers
-pub mod Training
 pub mod TrainInner
 pub mod Tables
 pub mod Refusals

@@ -10,12 +10,12 @@ use Rattle.lists.specs.Tests.{anyOf}
 use Rattle.metrics.specs.Distance.{zero32}
 use Rattle.pq_params.specs.Bounds.{plainTests, epochTests, tooManyRows, tooManyDraws, tooMuchAsked, centersOf}
 use Rattle.pq_params.specs.Ranges.{coveredOf}
-use Rattle.pq_idx.specs.declared.Trained.{Trained}
-use Rattle.pq_idx.specs.declared.Trained.the-variants.{Done, Refused}
-use Rattle.pq_idx.specs.Answers.{ended}
+use Rattle.pq_train.specs.declared.Trained.{Trained}
+use Rattle.pq_train.specs.declared.Trained.the-variants.{Done, Refused}
+use Rattle.pq_train.specs.Answers.{ended}
 use Rattle.pq_idx.specs.Refusals.{notLong, anyNotFinite, anyDrawOut}
 use Rattle.pq_idx.specs.Results.{Lent, SearchOut, askedOf, lentLengths, unchanged, blank, answered}
-use Rattle.pq_idx.specs.Training.{Listed, rowAt, answerOf, subCenters, codeOf}
+use Rattle.pq_train.specs.Training.{Listed, rowAt, answerOf, subCenters, codeOf}
 use Rattle.pq_idx.specs.Tables.{Cell, codesSound, cellFinite, candidates}
 
 -- ---- training

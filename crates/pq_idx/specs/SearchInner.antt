@@ -20,7 +20,7 @@ use Rattle.pq_idx.specs.declared.search.Lengths.{Lengths}
 use Rattle.pq_idx.specs.declared.Searched.{Searched}
 use Rattle.pq_idx.specs.declared.Searched.the-variants.{Done, Refused}
 use Rattle.pq_idx.specs.Refusals.{anyNotFinite}
-use Rattle.pq_idx.specs.Training.{onRange}
+use Rattle.pq_train.specs.Training.{onRange}
 use Rattle.pq_idx.specs.Tables.{Cell, visible, codeAt, ofAll, codesSound, cellFinite, candidates}
 
 -- ---- tests 1 to 6

@@ -11,7 +11,7 @@ use Rattle.metrics.specs.Distance.{squared, sumTo}
 use Rattle.neighbor.specs.declared.Candidate.{Candidate}
 use Rattle.pq_params.specs.Bounds.{centersOf}
 use Rattle.pq_params.specs.Ranges.{beginOf, widthOf, coveredOf}
-use Rattle.pq_idx.specs.Training.{onRange}
+use Rattle.pq_train.specs.Training.{onRange}
 
 -- one cell as a search meets it
 pub record Cell : Type 0 where

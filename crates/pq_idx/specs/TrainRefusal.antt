@@ -5,16 +5,13 @@ use mathlib.Core.Bool.{Bool, cond, not}
 use lib.ListN.{length}
 use lib.Dec.{eqb}
 use lib.Ieee.{Float}
-use Rattle.lists.specs.Lists.{fill}
 use Rattle.lists.specs.Tests.{anyOf}
-use Rattle.metrics.specs.Distance.{zero32}
 use Rattle.pq_params.specs.Bounds.{plainTests, epochTests, tooManyRows, tooManyDraws, centersOf}
 use Rattle.pq_params.specs.Ranges.{coveredOf}
-use Rattle.pq_idx.specs.declared.Trained.{Trained}
 use Rattle.pq_idx.specs.declared.training.TrainLengths.{TrainLengths}
-use Rattle.pq_idx.specs.Answers.{ended}
+use Rattle.pq_train.specs.Answers.{ended}
 use Rattle.pq_idx.specs.Refusals.{anyNotFinite, anyDrawOut}
-use Rattle.pq_idx.specs.Training.{answerOf}
+use Rattle.pq_train.specs.Training.{answerOf}
 use Rattle.pq_idx.specs.Outcomes.{TrainIn, TrainOut, allRows, trainDone, trainZero}
 
 -- test 4, by lengths
@@ -36,13 +33,6 @@ trainRefusalBy d nsub bits epochs n rows draws l =
     (cond (anyOf (trainLengthTests d nsub bits n (length rows) (length draws) l)) 4
     (cond (anyNotFinite rows) 6
     (cond (anyDrawOut draws) 7 0)))))
-
--- the outputs after an answer: as they are, or zero
-abbrev pub subsLeft : Trained → List Float → List Float
-subsLeft t subs = ended t (λ (used : ℕ). subs) (λ (r : Trained). fill zero32 (length subs))
-
-abbrev pub codesLeft : Trained → List ℕ → List ℕ
-codesLeft t codes = ended t (λ (used : ℕ). codes) (λ (r : Trained). fill 0 (length codes))
 
 -- what a training whose input passed the tests leaves
 abbrev pub trainEnded : TrainIn → TrainOut

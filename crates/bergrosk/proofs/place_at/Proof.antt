@@ -1,6 +1,6 @@
 use borrow.Author.Needs.{needs}
 use mathlib.Core.Path.{sym, ap, _∙_}
-use Rattle.pq_idx.specs.declared.Stage.{Stage}
+use Rattle.pq_train.specs.declared.Stage.{Stage}
 use Rattle.bergrosk.specs.Face.{placeAt}
 use Rattle.bergrosk.proofs.place_at.Statement.{statement}
 use Rattle.bergrosk.proofs.place_at.Tie as tie

@@ -1,18 +1,21 @@
 use borrow.Author.Needs.{needs}
-use mathlib.Core.Path.{_≡_, refl, sym, _∙_, ap}
+use mathlib.Core.Path.{_≡_, sym, _∙_, ap}
+use mathlib.Core.List.{[], _∷_}
 use native.Mathlib.Omega.{arith}
 use lib.ListN.{length, take}
 use lib.Seq.{length-take-le, length-front}
 use Rattle.lists.specs.Lists.{fill}
+use Rattle.pq_train.proofs.Laws.{told-refusal}
 use Rattle.pq_idx.specs.Outcomes.{TrainIn}
-use Rattle.pq_idx.proofs.TrainOutcome.{ended-out}
+use Rattle.pq_idx.proofs.TrainingLaws.{all-listed, ended-refused, ended-done}
 use Rattle.pq_idx.proofs.training.train_ready.Statement.{statement}
 use Rattle.pq_idx.proofs.training.train_ready.Tie as tie
 use Rattle.pq_idx.proofs.training.train_ready.Reads as reads
 use Rattle.pq_idx.proofs.training.train_ready.Lts as lts
+use Rattle.lists.proofs.fill_bytes.Reads as fill-bytes-reads
 use Rattle.lists.proofs.fill_numbers.Reads as fill-numbers-reads
-use Rattle.pq_idx.proofs.training.finish.Reads as finish-reads
-use Rattle.pq_idx.proofs.training.train_center.Reads as train-center-reads
+use Rattle.pq_idx.proofs.training.fill_codes.Reads as fill-codes-reads
+use Rattle.pq_train.proofs.train_list.Reads as train-list-reads
 
 abbrev given : tie.Start → TrainIn
 given c =
@@ -29,27 +32,33 @@ given c =
       work = a .work .now;
     }
 
-cast-train-center : tie.Need-cast-train-center
-cast-train-center c = search needs
+cast-t15 : tie.Need-cast-t15
+cast-t15 c = search needs
 
-slice-relend-prefix-train-center : tie.Need-slice-relend-prefix-train-center
-slice-relend-prefix-train-center c = search needs
+slice-aggregate-train-list : tie.Need-slice-aggregate-train-list
+slice-aggregate-train-list c = search needs
 
-slice-aggregate-train-center : tie.Need-slice-aggregate-train-center
-slice-aggregate-train-center c =
+slice-relend-prefix-train-list : tie.Need-slice-relend-prefix-train-list
+slice-relend-prefix-train-list c = search needs
+
+slice-aggregate-train-list-2 : tie.Need-slice-aggregate-train-list-2
+slice-aggregate-train-list-2 c =
     let s = c .before .before .before .before .before .before .before .before in
     sym (length-take-le (s .args .n) (s .args .work .now) (omega (arith, s .pre .1 .2)))
 
-train-center-requires : tie.Need-train-center-requires
-train-center-requires c κs =
+train-list-requires : tie.Need-train-list-requires
+train-list-requires c κs =
     let s = c .before .before .before .before .before .before .before .before in
-    (s .pre .0, record { subs-long = s .pre .1 .0; codes-long = s .pre .1 .1; assigned-long = length-take-le (s .args .n) (s .args .work .now) (omega (arith, s .pre .1 .2)); drawn = omega arith })
+    (all-listed _ (s .pre .0), record { subs-long = s .pre .1 .0; assigned-long = length-take-le (s .args .n) (s .args .work .now) (omega (arith, s .pre .1 .2)); drawn = omega arith })
 
 fill-numbers-requires : tie.Need-fill-numbers-requires
 fill-numbers-requires c κs = search needs
 
-finish-requires : tie.Need-finish-requires
-finish-requires c κs = search needs
+enum-known-t : tie.Need-enum-known-t
+enum-known-t c = search needs
+
+fill-bytes-requires : tie.Need-fill-bytes-requires
+fill-bytes-requires c κs = search needs
 
 same-length : tie.Need-same-length
 same-length c = search needs
@@ -62,26 +71,56 @@ same-length-3 c = search needs
 
 returns : tie.Need-returns
 returns c =
-    let s = c .before .before .before .before .before .before .before .before .before .before .before .before .before .before .before .before .before .before .before .before .before .before .before .before .before .before in
+    let s = c .before .before .before .before .before .before .before .before .before .before .before .before .before .before .before .before .before .before .before .before .before .before in
     let a = s .args in
-    let v = c .before .before .before .before .before .before .before .before .before .before .before .before .before .before .before .before .before .train-center in
-    let l : length (v .last .1 .1 .1 .1 .1 .1 .1 .0) ≡ length (a .subs .now) = search needs in
-    let m : length (v .last .1 .1 .1 .1 .1 .1 .1 .1 .0) ≡ length (a .codes .now) = search needs in
-    let w : length (v .last .1 .1 .1 .1 .1 .1 .1 .1 .1 .0) ≡ length (take (a .n) (a .work .now)) = search needs in
-    let f = c .before .before .before .before .finish .ensures in
-    ended-out (given s) (v .result) _ _ _ _ _ (v .ensures) l m (f .0) (f .1) (c .before .before .before .before .before .before .before .before .before .fill-numbers .ensures ∙ ap (fill 0) (length-front (a .work .now) (v .last .1 .1 .1 .1 .1 .1 .1 .1 .1 .0) (a .n) w))
+    let v = c .before .before .before .before .before .before .before .before .before .before .before .before .before .train-list in
+    let w : length (v .last .1 .1 .1 .1 .1 .1 .1 .0) ≡ length (take (a .n) (a .work .now)) = search needs in
+    ended-refused (given s) (0 ∷ []) (v .result) _ _ _ _ (v .ensures) (told-refusal (v .result) (c .before .before .before .before .match .keys2)) (c .before .before .fill-bytes .ensures)
+    (c .before .before .before .before .before .before .before .fill-numbers .ensures ∙ ap (fill 0) (length-front (a .work .now) (v .last .1 .1 .1 .1 .1 .1 .1 .0) (a .n) w))
+
+fill-codes-requires : tie.Need-fill-codes-requires
+fill-codes-requires c κs =
+    let s = c .before .before .before .before .before .before .before .before .before .before .before .before .before .before .before .before .before .before .before .before .before .before in
+    let v = c .before .before .before .before .before .before .before .before .before .before .before .before .before .train-list in
+    let m : length (v .last .1 .1 .1 .1 .1 .1 .0) ≡ length (s .args .subs .now) = search needs in
+    record { good = s .pre .0 .good; rows-long = s .pre .0 .rows-long; subs-long = m ∙ s .pre .1 .0; codes-long = s .pre .1 .1 }
+
+same-length-4 : tie.Need-same-length-4
+same-length-4 c = search needs
+
+same-length-5 : tie.Need-same-length-5
+same-length-5 c = search needs
+
+same-length-6 : tie.Need-same-length-6
+same-length-6 c = search needs
+
+returns-2 : tie.Need-returns-2
+returns-2 c =
+    let s = c .before .before .before .before .before .before .before .before .before .before .before .before .before .before .before .before .before .before .before .before .before .before .before .before .before in
+    let a = s .args in
+    let v = c .before .before .before .before .before .before .before .before .before .before .before .before .before .before .before .before .train-list in
+    let w : length (v .last .1 .1 .1 .1 .1 .1 .1 .0) ≡ length (take (a .n) (a .work .now)) = search needs in
+    ended-done (given s) (0 ∷ []) (v .result) _ _ _ _ _ (v .ensures) (s .pre .0 .good) (c .before .before .before .before .before .before .t .given .1) (c .before .before .fill-codes .ensures)
+    (c .before .before .before .before .before .before .before .before .before .before .fill-numbers .ensures ∙ ap (fill 0) (length-front (a .work .now) (v .last .1 .1 .1 .1 .1 .1 .1 .0) (a .n) w))
 
 pub train-ready-spec : {M : Type 1} → statement M
 train-ready-spec =
     tie.close
     (tie.spec
-    cast-train-center
-    slice-relend-prefix-train-center
-    slice-aggregate-train-center
-    train-center-requires
+    cast-t15
+    slice-aggregate-train-list
+    slice-relend-prefix-train-list
+    slice-aggregate-train-list-2
+    train-list-requires
     fill-numbers-requires
-    finish-requires
+    enum-known-t
+    fill-bytes-requires
     same-length
     same-length-2
     same-length-3
-    returns)
+    returns
+    fill-codes-requires
+    same-length-4
+    same-length-5
+    same-length-6
+    returns-2)

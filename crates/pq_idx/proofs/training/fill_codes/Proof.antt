@@ -1,0 +1,73 @@
+use borrow.Author.Needs.{needs}
+use Prim.Native.Nat.{ℕ, _+_, _*_, _-_, _≤_}
+use mathlib.Core.Path.{_≡_, refl, _∙_}
+use mathlib.Core.List.{_++_}
+use native.Mathlib.Omega.{arith}
+use lib.ListN.{length, drop}
+use Rattle.lists.specs.Lists.{grid}
+use Rattle.lists.proofs.Joins.{within, grid-none, grid-step, grid-done}
+use Rattle.pq_idx.specs.TrainInner.{codeIn}
+use Rattle.pq_idx.proofs.TrainingLaws.{row-coding}
+use Prim.Native.Nat.{ℕ, suc, _+_, _*_, _-_, _≤_, _<_}
+use mathlib.Core.Path.{_≡_, refl, sym, _∙_, ap}
+use native.Mathlib.Omega.{arith}
+use native.Mathlib.Numerals.{add-one}
+use lib.ListN.{length, getD, drop, take}
+use Rattle.pq_idx.proofs.training.fill_codes.Statement.{statement}
+use Rattle.pq_idx.proofs.training.fill_codes.Tie as tie
+use Rattle.pq_idx.proofs.training.fill_codes.Reads as reads
+use Rattle.pq_idx.proofs.training.fill_codes.Lts as lts
+use Rattle.pq_train.proofs.fill_row.Reads as fill-row-reads
+
+abbrev Inv-loop : tie.InvT-loop
+Inv-loop l rows subs codes₀ m₀ m-end codes m = (m ≤ l .n) × (length codes ≡ length codes₀) × (codes ≡ grid (codeIn l rows subs) m (l .nsub) ++ drop (m * l .nsub) codes₀)
+
+abbrev μ-loop : tie.MeasureT-loop
+μ-loop l rows subs codes₀ m₀ m-end codes m = l .n - m
+
+loop-holds : tie.Need-loop-holds Inv-loop μ-loop
+loop-holds c = (search needs, refl, grid-none _ _ _)
+
+fill-row-requires : tie.Need-fill-row-requires Inv-loop μ-loop
+fill-row-requires c κs =
+    let s = c .before .before .before .before .before .before in
+    let l = s .args .l in
+    let i = c .before .before .loop in
+    let h = c .before .loop-test .taken in (
+      row-coding (s .pre) (i .m) h,
+      omega (arith, within (i .m) (l .n) (l .d) h, s .pre .rows-long),
+      omega (arith, within (i .m) (l .n) (l .nsub) h, s .pre .codes-long, i .inv .1),
+    )
+
+add-m : tie.Need-add-m Inv-loop μ-loop
+add-m c = search needs
+
+loop-less : tie.Need-loop-less Inv-loop μ-loop
+loop-less c = search needs
+
+loop-again : tie.Need-loop-again Inv-loop μ-loop
+loop-again c =
+    let i = c .before .before .before .before .before .loop in
+    (search needs, search needs, c .before .before .fill-row .ensures ∙ grid-step _ (i .m) _ _ _ _ (i .inv .2) refl)
+
+same-length : tie.Need-same-length Inv-loop μ-loop
+same-length c = search needs
+
+returns : tie.Need-returns Inv-loop μ-loop
+returns c =
+    let s = c .before .before .before .before .before in
+    grid-done _ _ (s .args .l .n) (s .args .l .nsub) (s .args .codes .now) _ (c .before .loop .inv .2) (omega arith) (omega (arith, s .pre .codes-long))
+
+pub fill-codes-spec : {M : Type 1} → statement M
+fill-codes-spec =
+    tie.close
+    (tie.spec
+    Inv-loop
+    μ-loop
+    loop-holds
+    fill-row-requires
+    add-m
+    loop-less
+    loop-again
+    same-length
+    returns)
