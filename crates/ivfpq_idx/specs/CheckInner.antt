@@ -19,8 +19,8 @@ use Rattle.ivfpq_idx.specs.Outcomes.{CheckOut}
 -- ---- tests 1, 3, 4
 
 -- test 4 on the index's own buffers, by lengths
-abbrev pub lengthTests : ℕ → ℕ → ℕ → ℕ → ℕ → IndexLengths → List Bool
-lengthTests d nsub bits cells n l =
+abbrev pub indexLengthTests : ℕ → ℕ → ℕ → ℕ → ℕ → IndexLengths → List Bool
+indexLengthTests d nsub bits cells n l =
     not (eqb (l .coarse) (cells * d))
     ∷ not (eqb (l .starts) (cells + 1))
     ∷ not (eqb (l .members) n)
@@ -29,11 +29,11 @@ lengthTests d nsub bits cells n l =
     ∷ []
 
 -- tests 1, 3, 4, by lengths
-unfoldable pub refusalBy : ℕ → ℕ → ℕ → ℕ → ℕ → ℕ → IndexLengths → ℕ → ℕ
-refusalBy d nsub bits cells probes n l work =
+unfoldable pub checkRefusalBy : ℕ → ℕ → ℕ → ℕ → ℕ → ℕ → IndexLengths → ℕ → ℕ
+checkRefusalBy d nsub bits cells probes n l work =
     cond (badCelled d nsub bits cells probes) 1
     (cond (tooManyRows n) 3
-    (cond (anyOf (lengthTests d nsub bits cells n l ++ (not (eqb work (n + 1024)) ∷ []))) 4 0))
+    (cond (anyOf (indexLengthTests d nsub bits cells n l ++ (not (eqb work (n + 1024)) ∷ []))) 4 0))
 
 -- ---- the four tests, at one place
 
@@ -46,8 +46,8 @@ belowAt l n i = ltb (getD l i 0) n
 abbrev pub risesAt : List ℕ → ℕ → Bool
 risesAt l i = ltb (getD l i 0) (getD l (suc i) 0)
 
-abbrev pub cellSound : List ℕ → List ℕ → ℕ → ℕ → Bool
-cellSound starts members n c = listSound n (membersOf starts members c)
+abbrev pub listSoundAt : List ℕ → List ℕ → ℕ → ℕ → Bool
+listSoundAt starts members n c = listSound n (membersOf starts members c)
 
 abbrev pub onceAt : List ℕ → ℕ → Bool
 onceAt members m = eqb (places members m) 1
@@ -69,7 +69,7 @@ pub record Checking (nsub bits cells n : ℕ) (starts members codes work : List 
 abbrev pub soundBy : ℕ → ℕ → ℕ → ℕ → List ℕ → List ℕ → List ℕ → Bool
 soundBy nsub bits cells n starts members codes =
     startsSound starts cells n
-    && every (cellSound starts members n) cells
+    && every (listSoundAt starts members n) cells
     && every (onceAt members) n
     && every (codesBelow codes nsub bits) n
 
