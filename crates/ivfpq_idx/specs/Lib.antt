@@ -3,3 +3,4 @@ pub mod Training
 pub mod Check
 pub mod Search
 pub mod Outcomes
+pub mod CheckInner
