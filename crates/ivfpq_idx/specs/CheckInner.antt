@@ -10,7 +10,7 @@ use Rattle.lists.specs.Tests.{anyOf, every}
 use Rattle.pq_params.specs.Bounds.{badCelled, tooManyRows, centersOf}
 use Rattle.pq_params.specs.Ranges.{coveredOf}
 use Rattle.pq_idx.specs.Tables.{codesBelow}
-use Rattle.ivfpq_idx.specs.declared.check.IndexLengths.{IndexLengths}
+use Rattle.ivfpq_idx.specs.declared.checking.IndexLengths.{IndexLengths}
 use Rattle.ivfpq_idx.specs.declared.Checked.the-variants.{Accepted, Refused}
 use Rattle.ivfpq_idx.specs.Lists.{startOf, membersOf, startsSound, listSound}
 use Rattle.ivfpq_idx.specs.Check.{places}

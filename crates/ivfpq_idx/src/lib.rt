@@ -1,5 +1,5 @@
 // The celled index: its training, its whole check and its search.
-pub mod check;
+pub mod checking;
 
 // What the whole check answers.
 pub enum Checked {
