@@ -142,7 +142,7 @@ fn overflow_in_training() -> Vec<Item> {
 
 /// Rows whose sum stays finite in row order, but not without the second row, which is 1 - 1/1024 of
 /// their mean.
-const AVERAGING: [f32; 5] =
+pub const AVERAGING: [f32; 5] =
     [2.4e38, f32::from_bits(0xfdf0_816b), 1.4e38, -3e38, f32::from_bits(0xff34_95c4)];
 
 /// Distances and sums that come out not finite.
