@@ -4,6 +4,10 @@
 //! each method of `Subject` hands its task to one of them. A method that answers none says that the
 //! library has no such entry point, and the commands print that they left it out.
 //!
+//! On x86-64 an answer by value is written behind a hidden first pointer. The module says so in the
+//! terms of x86-64, so what is made of it for another machine takes that pointer as a first argument
+//! like any other, and there each entry point is called in that way.
+//!
 //! Answers are mapped both ways. An answer as the header has it becomes the seat's, and is then held
 //! to what the header has for that one, field by field, so that no field goes unseen.
 
@@ -60,12 +64,38 @@ pub struct Lengths {
     pub table: usize,
 }
 
-extern "C" {
-    pub fn bergrosk_range(d: usize, n_sub: usize, i: usize) -> RangeAnswer;
+/// Declares the entry points as the header has them, or with the pointer to the answer in front.
+macro_rules! entry_points {
+    ($(fn $name:ident($($word:ident: $kind:ty),* $(,)?) -> $answer:ident;)*) => {
+        #[cfg(target_arch = "x86_64")]
+        extern "C" {
+            $(pub fn $name($($word: $kind),*) -> $answer;)*
+        }
 
-    pub fn bergrosk_plain_lengths(d: usize, n_sub: usize, sub_bits: usize, n: usize) -> Lengths;
+        #[cfg(not(target_arch = "x86_64"))]
+        mod behind_pointer {
+            use super::*;
+            extern "C" {
+                $(pub fn $name(answer: *mut $answer, $($word: $kind),*) -> *mut $answer;)*
+            }
+        }
 
-    pub fn bergrosk_plain_train(
+        $(#[cfg(not(target_arch = "x86_64"))]
+        pub unsafe fn $name($($word: $kind),*) -> $answer {
+            let mut answer = $answer::default();
+            let place: *mut $answer = &mut answer;
+            assert_eq!(behind_pointer::$name(place, $($word),*), place);
+            answer
+        })*
+    };
+}
+
+entry_points! {
+    fn bergrosk_range(d: usize, n_sub: usize, i: usize) -> RangeAnswer;
+
+    fn bergrosk_plain_lengths(d: usize, n_sub: usize, sub_bits: usize, n: usize) -> Lengths;
+
+    fn bergrosk_plain_train(
         d: usize,
         n_sub: usize,
         sub_bits: usize,
@@ -83,7 +113,7 @@ extern "C" {
         work_len: usize,
     ) -> TrainAnswer;
 
-    pub fn bergrosk_plain_search(
+    fn bergrosk_plain_search(
         d: usize,
         n_sub: usize,
         sub_bits: usize,
