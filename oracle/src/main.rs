@@ -144,7 +144,7 @@ fn run(options: &Options) -> Option<bool> {
         "distance-check" => distance_check::check(cases(2_000_000), options.seed),
         "record" => record::record(&options.file),
         "replay" => replay::replay(options.voice()?, &options.file),
-        "disagree" => disagree::show(),
+        "disagree" => disagree::show(options.voice()?),
         "bench" => bench::bench(options.voice()?),
         "fuzz" => fuzz(options),
         _ => return None,
