@@ -15,6 +15,7 @@ use hora_as_is::index::pq_idx::{reach, PQIndex};
 use hora_as_is::index::pq_params::PQParams;
 use seat::{PlainParams, PlainSearch, PlainTraining, Subject};
 
+use crate::bench_celled;
 use crate::chance::Chance;
 
 /// A time is the least of at least so many runs, and of more while they take less than these seconds.
@@ -64,6 +65,14 @@ pub fn bench(subject: &dyn Subject) -> bool {
             Some(answers) => equal &= answers,
             None => println!("left out, no entry point"),
         }
+    }
+    match bench_celled::time(subject) {
+        Some((rust, ours)) => {
+            let words = bench_celled::WORDS;
+            worst.line(format!("{words}, training of 5 epochs"), (rust.training, ours.training));
+            worst.line(format!("{words}, a search of k 10"), (rust.search, ours.search));
+        }
+        None => println!("celled: left out, no entry point"),
     }
     println!("{}", if equal { "answers equal" } else { "ANSWERS DIFFER" });
     println!("worst ratio {:.3}: {}", worst.ratio, worst.words);

@@ -2,6 +2,7 @@
 
 mod as_is;
 mod bench;
+mod bench_celled;
 mod case;
 mod chance;
 mod compare;

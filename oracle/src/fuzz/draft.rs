@@ -86,7 +86,7 @@ pub fn draft(seed: u64) -> (Call, Manner) {
     let call = match chance.below(20) {
         0 => range(&mut chance),
         1 => Call::Lengths(spoiled(&mut chance, Size::Small).0),
-        2..=10 if chance.one_in(60) => Call::Training(overflowing_average(&mut chance)),
+        2..=10 if chance.one_in(40) => Call::Training(overflowing_later(&mut chance)),
         2..=10 => Call::Training(training(&mut chance, size)),
         _ => Call::Search(search(&mut chance, size)),
     };
@@ -264,18 +264,19 @@ fn training(chance: &mut Chance, size: Size) -> Training {
     }
 }
 
-/// A training in which sums overflow in averaging, though not at start: columns of `AVERAGING`, each
-/// a sub-space, among others.
-fn overflowing_average(chance: &mut Chance) -> Training {
-    let (d, n) = (chance.between(1, 4), AVERAGING.len());
+/// A training in which sums overflow in averaging, or products in splitting, though nothing does at
+/// start: columns of such rows, each a sub-space, among others.
+fn overflowing_later(chance: &mut Chance) -> Training {
+    let column: &[f32] = if chance.one_in(2) { &AVERAGING } else { &[f32::MAX] };
+    let (d, n) = (chance.between(1, 4), column.len());
     let (sub_bits, epochs) = (chance.between(1, 3), chance.between(2, 4));
     let shape = Shape { d, n_sub: d, sub_bits, epochs, n };
     let [rows, subs, codes, work] = training_lengths(&shape);
     let mut rows: Vec<f32> = (0..rows).map(|_| chance.signed() as f32).collect();
-    for column in 0..d {
+    for sub in 0..d {
         let sign = chance.pick(&[0.0, -1.0, 1.0]);
         if sign != 0.0 {
-            (0..n).for_each(|row| rows[row * d + column] = sign * AVERAGING[row]);
+            (0..n).for_each(|row| rows[row * d + sub] = sign * column[row]);
         }
     }
     Training {
