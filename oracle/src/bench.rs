@@ -36,18 +36,18 @@ struct Workload {
     n_sub: usize,
     sub_bits: usize,
     epochs: usize,
-    ks: [usize; 2],
+    ks: [usize; 3],
 }
 
 /// The defaults, finer codes, more sub-spaces, and a small index.
 const WORKLOADS: [Workload; 7] = [
-    Workload { d: 128, n: 10_000, n_sub: 4, sub_bits: 4, epochs: 100, ks: [10, 4_096] },
-    Workload { d: 128, n: 10_000, n_sub: 4, sub_bits: 8, epochs: 2, ks: [10, 4_096] },
-    Workload { d: 128, n: 10_000, n_sub: 16, sub_bits: 8, epochs: 2, ks: [10, 4_096] },
-    Workload { d: 128, n: 10_000, n_sub: 64, sub_bits: 8, epochs: 2, ks: [10, 4_096] },
-    Workload { d: 128, n: 10_000, n_sub: 64, sub_bits: 4, epochs: 5, ks: [10, 4_096] },
-    Workload { d: 128, n: 100_000, n_sub: 16, sub_bits: 4, epochs: 2, ks: [10, 4_096] },
-    Workload { d: 32, n: 1_000, n_sub: 4, sub_bits: 4, epochs: 100, ks: [10, 1_000] },
+    Workload { d: 128, n: 10_000, n_sub: 4, sub_bits: 4, epochs: 100, ks: [10, 1_000, 4_096] },
+    Workload { d: 128, n: 10_000, n_sub: 4, sub_bits: 8, epochs: 2, ks: [10, 1_000, 4_096] },
+    Workload { d: 128, n: 10_000, n_sub: 16, sub_bits: 8, epochs: 2, ks: [10, 1_000, 4_096] },
+    Workload { d: 128, n: 10_000, n_sub: 64, sub_bits: 8, epochs: 2, ks: [10, 1_000, 4_096] },
+    Workload { d: 128, n: 10_000, n_sub: 64, sub_bits: 4, epochs: 5, ks: [10, 1_000, 4_096] },
+    Workload { d: 128, n: 100_000, n_sub: 16, sub_bits: 4, epochs: 2, ks: [10, 1_000, 4_096] },
+    Workload { d: 32, n: 1_000, n_sub: 4, sub_bits: 4, epochs: 100, ks: [1, 10, 1_000] },
 ];
 
 /// Times every workload; the last line has the worst ratio. False if an answer differs.
