@@ -1,8 +1,9 @@
 //! The command `disagree`: the smallest inputs on which document 01 and the Rust differ, with what
 //! each says. The Rust runs with its own order on neighbours; document 01 speaks through the page.
-//! An input on which the two say the same fails the command.
+//! An input on which the two say the same fails the command, and so does one on which another voice
+//! does not say what document 01 says.
 
-use seat::{PlainParams, Stage, Step, Subject};
+use seat::{PlainParams, PlainTraining, Stage, Step, Subject, Trained};
 
 use crate::as_is::{self, list};
 use crate::case::*;
@@ -18,12 +19,13 @@ struct Item {
     why: &'static str,
 }
 
-/// Prints every item; true if the two differ on each.
-pub fn show() -> bool {
+/// Prints every item; true if the two differ on each, and the voice says what document 01 says.
+pub fn show(voice: &dyn Subject) -> bool {
     let mut all = true;
+    let (mut heard, mut left_out) = (0, 0);
     for item in items() {
         let rust = as_is::answer(&item.case);
-        let page = page_answer(&item.case);
+        let page = answer(&page::Page, &item.case).expect("the page has every entry point");
         println!("## {}", item.title);
         println!("- input: {}", input(&item.case));
         println!("- the Rust: {rust}");
@@ -33,8 +35,17 @@ pub fn show() -> bool {
             println!("- THE SAME");
             all = false;
         }
+        match answer(voice, &item.case) {
+            Some(words) if words == page => heard += 1,
+            Some(words) => {
+                println!("- NOT SO THE {}: {words}", voice.name());
+                all = false;
+            }
+            None => left_out += 1,
+        }
         println!();
     }
+    println!("{}: {heard} as document 01, {left_out} left out, no entry point", voice.name());
     all
 }
 
@@ -142,7 +153,7 @@ fn overflow_in_training() -> Vec<Item> {
 
 /// Rows whose sum stays finite in row order, but not without the second row, which is 1 - 1/1024 of
 /// their mean.
-const AVERAGING: [f32; 5] =
+pub const AVERAGING: [f32; 5] =
     [2.4e38, f32::from_bits(0xfdf0_816b), 1.4e38, -3e38, f32::from_bits(0xff34_95c4)];
 
 /// Distances and sums that come out not finite.
@@ -267,21 +278,32 @@ fn input(case: &Case) -> String {
     words
 }
 
-/// What document 01 says, in the words that the Rust's answer has.
-fn page_answer(case: &Case) -> String {
-    let lengths_undefined = match case {
-        Case::Plain(case) => page::Page.ranges(case.params.d, case.params.n_sub),
-        Case::Celled(case) => page::Page.ranges(case.plain.params.d, case.plain.params.n_sub),
-        Case::Kmeans(_) => None,
-    };
-    if let Some(Err(number)) = lengths_undefined {
-        return format!("training refused with {number}");
+/// What a voice says, in the words that the Rust's answer has; none if it has no entry point.
+fn answer(voice: &dyn Subject, case: &Case) -> Option<String> {
+    if let Case::Plain(case) = case {
+        if page::Page.ranges(case.params.d, case.params.n_sub)?.is_err() {
+            return Some(refused(without_lengths(voice, case)?.expect_err("it is out of bounds")));
+        }
     }
-    let reply = hear(&page::Page, case).expect("the page has every entry point");
-    match reply.answer {
+    let reply = hear(voice, case)?;
+    Some(match reply.answer {
         Ok(_) => trained(case, &reply),
         Err(refusal) => refused(refusal),
-    }
+    })
+}
+
+/// A training whose parameters give its buffers no lengths: those to be written are empty.
+fn without_lengths(voice: &dyn Subject, case: &PlainCase) -> Option<Trained> {
+    voice.train_plain(PlainTraining {
+        params: case.params,
+        epochs: case.epochs,
+        n: 1,
+        rows: &case.rows,
+        draws: &case.draws,
+        sub_centres: &mut [],
+        codes: &mut [],
+        work: &mut [],
+    })
 }
 
 /// A refused training in words.

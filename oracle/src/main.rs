@@ -2,6 +2,7 @@
 
 mod as_is;
 mod bench;
+mod bench_celled;
 mod case;
 mod chance;
 mod compare;
@@ -12,6 +13,8 @@ mod distance_check;
 mod drive;
 #[cfg(feature = "library")]
 mod face;
+#[cfg(feature = "library")]
+mod fuzz;
 mod generate;
 mod original;
 mod quiet;
@@ -34,8 +37,9 @@ commands:
   distance-check [--cases N] [--seed S]
   record [FILE]
   replay [FILE] [--voice page|library]
-  disagree
-  bench [--voice page|library]";
+  disagree [--voice page|library]
+  bench [--voice page|library]
+  fuzz [CALLS] [SEED] [--call NUMBER] [--heap] [--null]";
 
 /// The recorded answers, as data of the program that replays them.
 const RECORDED: &str = "../crates/answers/data/recorded.bin";
@@ -66,6 +70,10 @@ struct Options {
     kinds: Vec<Kind>,
     voice: Option<String>,
     smallest: Option<usize>,
+    numbers: Vec<u64>,
+    call: Option<usize>,
+    heap: bool,
+    null: bool,
 }
 
 impl Options {
@@ -79,6 +87,10 @@ impl Options {
             kinds: Kind::ALL.to_vec(),
             voice: None,
             smallest: None,
+            numbers: Vec::new(),
+            call: None,
+            heap: false,
+            null: false,
         };
         while let Some(word) = words.next() {
             match word.as_str() {
@@ -87,7 +99,11 @@ impl Options {
                 "--kind" => options.kinds = kinds(&words.next()?)?,
                 "--voice" => options.voice = Some(words.next()?),
                 "--smallest" => options.smallest = Some(words.next()?.parse().ok()?),
+                "--call" => options.call = Some(words.next()?.parse().ok()?),
+                "--heap" => options.heap = true,
+                "--null" => options.null = true,
                 flag if flag.starts_with("--") => return None,
+                number if options.command == "fuzz" => options.numbers.push(number.parse().ok()?),
                 file => options.file = PathBuf::from(file),
             }
         }
@@ -129,8 +145,25 @@ fn run(options: &Options) -> Option<bool> {
         "distance-check" => distance_check::check(cases(2_000_000), options.seed),
         "record" => record::record(&options.file),
         "replay" => replay::replay(options.voice()?, &options.file),
-        "disagree" => disagree::show(),
+        "disagree" => disagree::show(options.voice()?),
         "bench" => bench::bench(options.voice()?),
+        "fuzz" => fuzz(options),
         _ => return None,
     })
+}
+
+/// Calls of the library with anything, if it is linked.
+#[cfg(feature = "library")]
+fn fuzz(options: &Options) -> bool {
+    let calls = options.numbers.first().copied().unwrap_or(1_000_000) as usize;
+    let seed = options.numbers.get(1).copied().unwrap_or(options.seed);
+    let Options { call: only, heap, null, .. } = *options;
+    fuzz::fuzz(&fuzz::Order { calls, seed, only, heap, null })
+}
+
+/// Without the library there is nothing to call.
+#[cfg(not(feature = "library"))]
+fn fuzz(_options: &Options) -> bool {
+    eprintln!("fuzz calls the library: build with --features library");
+    false
 }

@@ -69,6 +69,9 @@ impl Tally {
                     Case::Celled(case) => &case.plain.queries[..],
                 };
                 of_kind.hiding += queries.iter().filter(|query| query.mask.is_some()).count();
+                for (query, results) in queries.iter().zip(&training.results) {
+                    search_corners(query, results).into_iter().for_each(|c| self.reach(c, 1));
+                }
             }
         }
         corners(case).into_iter().for_each(|corner| self.reach(corner, 1));
@@ -151,7 +154,11 @@ fn corners(case: &Case) -> Vec<&'static str> {
             at(case.n_center >= 256, "256 centres or more");
             at(case.n_center >= 256 && case.epochs > 1, "256 centres or more, split");
         }
-        Case::Plain(case) => index_corners(case.params, case.epochs, &mut at),
+        Case::Plain(case) => {
+            index_corners(case.params, case.epochs, &mut at);
+            at(case.n() == 1, "one row");
+            at(repeats(&case.rows, case.params.d), "a row twice");
+        }
         Case::Celled(case) => {
             index_corners(case.plain.params, case.plain.epochs, &mut at);
             let many = case.plain.epochs > 1;
@@ -162,6 +169,30 @@ fn corners(case: &Case) -> Vec<&'static str> {
         }
     }
     list
+}
+
+/// The corners that a search is at.
+fn search_corners(query: &Query, results: &Result<Results, u32>) -> Vec<&'static str> {
+    let mut list = Vec::new();
+    if let Ok(results) = results {
+        let sums = &results.sums[..results.found as usize];
+        let at = [
+            (query.k == 0, "k 0"),
+            (query.k == 4096, "k 4096"),
+            (query.k as u64 > results.scored, "k above the candidates"),
+            (sums.windows(2).any(|pair| pair[0] == pair[1]), "equal sums"),
+        ];
+        list.extend(at.iter().filter(|(holds, _)| *holds).map(|(_, name)| *name));
+    }
+    list
+}
+
+/// Whether a row comes twice.
+fn repeats(rows: &[f32], d: usize) -> bool {
+    let row = |row: &[f32]| row.iter().map(|x| x.to_bits()).collect::<Vec<u32>>();
+    let mut list: Vec<Vec<u32>> = rows.chunks_exact(d).map(row).collect();
+    list.sort();
+    list.windows(2).any(|pair| pair[0] == pair[1])
 }
 
 /// The corners of an index's parameters.

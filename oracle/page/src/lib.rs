@@ -1,6 +1,6 @@
 //! Document 01 read plainly, written from its text and not from the Rust. It is the voice that the
-//! comparison sets beside the Rust while the library has no entry points, and the voice of document
-//! 01 where the two disagree.
+//! comparison sets beside the Rust where no library is linked, the voice of document 01 where the two
+//! disagree, and what calls of the library with anything are checked against.
 //!
 //! Everything is worked on values in the plainest way; nothing here is meant to be fast. A refusal
 //! is an early `Err`, and what it leaves in the lent buffers is written in one place for each

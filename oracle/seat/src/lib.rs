@@ -1,5 +1,5 @@
-//! The seat in the comparison: what a voice (the page, later the library) is lent, and what it
-//! answers. Buffers, their lengths and the answer numbers are those of document 01.
+//! The seat in the comparison: what a voice (the page, the library) is lent, and what it answers.
+//! Buffers, their lengths and the answer numbers are those of document 01.
 
 /// Parameters of a plain index.
 #[derive(Clone, Copy, Debug, PartialEq, Eq)]
