@@ -7,7 +7,7 @@
  *
  * Buffers. A buffer is a pointer and a length in elements, and each must be exactly as long as
  * stated: bergrosk_plain_lengths works the lengths out. A buffer to be written must not overlap
- * another one. A pointer is never NULL and is aligned as its type asks, at length 0 too. Any
+ * another one. A pointer is aligned as its type asks, and may be NULL where its length is 0. Any
  * contents are safe: NaN, infinities, codes out of range and buffers not yet written to are
  * answered by a number, never by an access outside a buffer.
  *

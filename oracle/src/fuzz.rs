@@ -23,8 +23,6 @@ pub struct Order {
     pub only: Option<usize>,
     /// Buffers on the heap, for valgrind.
     pub heap: bool,
-    /// NULL for a buffer of length 0.
-    pub null: bool,
 }
 
 /// Every answer that each entry point has.
@@ -49,7 +47,7 @@ pub fn fuzz(order: &Order) -> bool {
     }
     let begun = Instant::now();
     println!("fuzz: {} calls, seed {}, {}", order.calls, order.seed, places(order));
-    let mut lender = Lender::new(order.null);
+    let mut lender = Lender::new();
     let mut tally = Tally::new();
     let differed = (0..order.calls).any(|at| !one(order, at, &mut lender, &mut tally));
     let lengths_differ = !differed && !every_length();
@@ -63,12 +61,11 @@ pub fn fuzz(order: &Order) -> bool {
 }
 
 /// Where the buffers stand, in words.
-fn places(order: &Order) -> String {
-    let place = match order.heap {
+fn places(order: &Order) -> &'static str {
+    match order.heap {
         true => "each buffer an allocation of its exact size",
         false => "each buffer directly before or after inaccessible memory",
-    };
-    place.to_string() + if order.null { ", NULL at length 0" } else { "" }
+    }
 }
 
 /// The name of a call's entry point in the tally.
@@ -101,7 +98,7 @@ fn one(order: &Order, at: usize, lender: &mut Lender, tally: &mut Tally) -> bool
 /// One call alone, printed whole before it is made.
 fn one_alone(order: &Order, at: usize) -> bool {
     println!("{:?}", draft(seed_of(order.seed, at)));
-    let equal = one(order, at, &mut Lender::new(order.null), &mut Tally::new());
+    let equal = one(order, at, &mut Lender::new(), &mut Tally::new());
     println!("calls 1, differences {}", !equal as usize);
     equal
 }

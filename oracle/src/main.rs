@@ -39,7 +39,7 @@ commands:
   replay [FILE] [--voice page|library]
   disagree [--voice page|library]
   bench [--voice page|library]
-  fuzz [CALLS] [SEED] [--call NUMBER] [--heap] [--null]";
+  fuzz [CALLS] [SEED] [--call NUMBER] [--heap]";
 
 /// The recorded answers, as data of the program that replays them.
 const RECORDED: &str = "../crates/answers/data/recorded.bin";
@@ -73,7 +73,6 @@ struct Options {
     numbers: Vec<u64>,
     call: Option<usize>,
     heap: bool,
-    null: bool,
 }
 
 impl Options {
@@ -90,7 +89,6 @@ impl Options {
             numbers: Vec::new(),
             call: None,
             heap: false,
-            null: false,
         };
         while let Some(word) = words.next() {
             match word.as_str() {
@@ -101,7 +99,6 @@ impl Options {
                 "--smallest" => options.smallest = Some(words.next()?.parse().ok()?),
                 "--call" => options.call = Some(words.next()?.parse().ok()?),
                 "--heap" => options.heap = true,
-                "--null" => options.null = true,
                 flag if flag.starts_with("--") => return None,
                 number if options.command == "fuzz" => options.numbers.push(number.parse().ok()?),
                 file => options.file = PathBuf::from(file),
@@ -157,8 +154,8 @@ fn run(options: &Options) -> Option<bool> {
 fn fuzz(options: &Options) -> bool {
     let calls = options.numbers.first().copied().unwrap_or(1_000_000) as usize;
     let seed = options.numbers.get(1).copied().unwrap_or(options.seed);
-    let Options { call: only, heap, null, .. } = *options;
-    fuzz::fuzz(&fuzz::Order { calls, seed, only, heap, null })
+    let Options { call: only, heap, .. } = *options;
+    fuzz::fuzz(&fuzz::Order { calls, seed, only, heap })
 }
 
 /// Without the library there is nothing to call.

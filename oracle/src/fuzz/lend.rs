@@ -71,13 +71,12 @@ impl Drop for Region {
 pub struct Lender {
     regions: Vec<Region>,
     lent: usize,
-    null: bool,
 }
 
 impl Lender {
-    /// Nothing is lent yet; `null` says to lend NULL for a buffer of length 0.
-    pub fn new(null: bool) -> Lender {
-        Lender { regions: Vec::new(), lent: 0, null }
+    /// Nothing is lent yet.
+    pub fn new() -> Lender {
+        Lender { regions: Vec::new(), lent: 0 }
     }
 
     /// The buffers of the call before are given back.
@@ -85,14 +84,14 @@ impl Lender {
         self.lent = 0;
     }
 
-    /// Lends a copy of a buffer's content.
+    /// Lends a copy of a buffer's content. One of length 0 is NULL where the others follow a wall.
     pub fn lend<T: Copy>(&mut self, manner: Manner, content: &[T]) -> Loan<T> {
         let loan = match manner {
             Manner::Heap => on_heap(content.len()),
             _ => self.beside_wall(manner, content.len()),
         };
         unsafe { ptr::copy_nonoverlapping(content.as_ptr(), loan.start, content.len()) };
-        match self.null && content.is_empty() {
+        match manner == Manner::AfterAWall && content.is_empty() {
             true => Loan { start: ptr::null_mut(), ..loan },
             false => loan,
         }
