@@ -4,6 +4,7 @@ ghost use Rattle.kmeans.specs.Kmeans.{numberOf};
 use crate::checked::Ran;
 use kmeans::Clustered;
 use kmeans::Frame;
+use recorded::tally::Tally;
 
 // Rows of two coordinates, the number of centres, the epochs, whether a split follows, how many of the draws 0.0, 0.25, 0.5, 0.4 are lent;
 // and what comes out: the answer's number, the draws used, the centres, how many rows each has, and the last assignment.
@@ -22,14 +23,14 @@ pub struct Example {
 }
 
 // The number of examples.
-pub const EXAMPLES: usize = 5;
+const EXAMPLES: usize = 5;
 
 // The draws of the examples.
 const DRAWS: [f64; 4] = [0.0, 0.25, 0.5, 0.4];
 
 // Rows (1,2), (3,4), four centres: the start, and the rows assigned to 0 and 1; the average; its split; the split with three draws.
 // And five equal rows, all of which one centre has: a donor count of 5 gives 2 and 3.
-const TABLE: [Example; 5] = [
+const TABLE: [Example; EXAMPLES] = [
     Example {
         rows: [1.0, 2.0, 3.0, 4.0, 0.0, 0.0, 0.0, 0.0, 0.0, 0.0],
         n: 2,
@@ -198,13 +199,13 @@ fn is_left(e: Example, centers: &[f32], assigned: &[u32], counts: &[u32]) -> boo
     let at = e.at;
     let to = e.assigned;
     let rows = e.counts;
-    if !crate::compare::listed_floats(centers, &at) {
+    if !recorded::compare::listed_floats(centers, &at) {
         return false;
     }
-    if !crate::compare::listed_numbers(assigned, &to) {
+    if !recorded::compare::listed_numbers(assigned, &to) {
         return false;
     }
-    crate::compare::listed_numbers(counts, &rows)
+    recorded::compare::listed_numbers(counts, &rows)
 }
 
 // The example in buffers of exactly its lengths.
@@ -266,8 +267,8 @@ fn replay_parts(
     let n = e.n;
     let c = e.centers;
     let t = e.lent;
-    let x = crate::layout::product(n, 2);
-    let y = crate::layout::product(c, 2);
+    let x = recorded::layout::product(n, 2);
+    let y = recorded::layout::product(c, 2);
     if rows.len() < x {
         return false;
     }
@@ -304,12 +305,10 @@ fn agrees(e: Example) -> bool {
 }
 
 // How many of the examples come out as document 01 says.
-pub fn agreeing() -> u64 {
-    let mut agree = 0;
+pub fn agreeing() -> Tally {
+    let mut t = Tally { agree: 0, of: 0 };
     for i in 0..EXAMPLES {
-        if agrees(TABLE[i]) {
-            agree = crate::tally::more(agree);
-        }
+        t = recorded::tally::counted(t, agrees(TABLE[i]));
     }
-    agree
+    t
 }

@@ -1,10 +1,10 @@
 // A recorded k-means: its numbers, its lists and its answer, replayed by our code.
 use crate::checked::Ran;
-use crate::layout::after;
-use crate::layout::count;
-use crate::layout::product;
 use kmeans::Clustered;
 use kmeans::Frame;
+use recorded::layout::after;
+use recorded::layout::count;
+use recorded::layout::product;
 
 // The numbers before the lists.
 pub struct Numbers {
@@ -43,7 +43,7 @@ fn numbers_of(body: &[u8]) -> Numbers {
         m: count(body, 4),
         has: count(body, 5) == 1,
         centers: count(body, 6),
-        epochs: crate::layout::word(body, 7),
+        epochs: recorded::layout::word(body, 7),
         lent: count(body, 8),
     }
 }
@@ -100,10 +100,10 @@ fn load(
     residual: &mut [f32],
     draws: &mut [f64],
 ) {
-    crate::layout::floats(body, ROWS, rows);
-    crate::layout::numbers(body, p.members, members);
-    crate::layout::floats(body, after(p.residual, h.begin), residual);
-    crate::layout::draws(body, p.draws, draws);
+    recorded::layout::floats(body, ROWS, rows);
+    recorded::layout::numbers(body, p.members, members);
+    recorded::layout::floats(body, after(p.residual, h.begin), residual);
+    recorded::layout::draws(body, p.draws, draws);
 }
 
 // Whether a list of rows names each row of n in order, so that k-means may go over all rows without it.
@@ -153,10 +153,10 @@ fn answers(
     if !crate::checked::assign(f, rows, members, residual, centers, assigned, counts) {
         return false;
     }
-    if !crate::compare::floats(body, p.centers, centers) {
+    if !recorded::compare::floats(body, p.centers, centers) {
         return false;
     }
-    crate::compare::numbers(body, p.assigned, assigned)
+    recorded::compare::numbers(body, p.assigned, assigned)
 }
 
 // Whether a case whose lists are loaded agrees: over its list of rows, and if the list names all rows, without it too.
@@ -303,7 +303,7 @@ fn replay_whole(
 ) -> bool {
     let h = numbers_of(body);
     let p = offsets_of(h);
-    if p.end != body.len() / 4 {
+    if !recorded::layout::ends(body, p.end) {
         return false;
     }
     let w = width(h);
@@ -325,11 +325,11 @@ fn replay_whole(
 
 // The same, in buffers for the largest k-means that the file may have.
 pub fn agrees(body: &[u8]) -> bool {
-    let mut rows = [0.0f32; 16_384];
+    let mut rows = crate::buffers::rows();
     let mut members = [0u32; 512];
     let mut residual = [0.0f32; 256];
-    let mut draws = [0.0f64; 20_000];
-    let mut centers = [0.0f32; 65_536];
+    let mut draws = crate::buffers::draws();
+    let mut centers = crate::buffers::centers();
     let mut assigned = [0u32; 512];
     let mut counts = [0u32; 1_024];
     replay_whole(

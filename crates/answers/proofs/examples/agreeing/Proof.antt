@@ -9,13 +9,13 @@ use Rattle.answers.proofs.examples.agreeing.Tie as tie
 use Rattle.answers.proofs.examples.agreeing.Reads as reads
 use Rattle.answers.proofs.examples.agreeing.Lts as lts
 use Rattle.answers.proofs.examples.agrees.Reads as agrees-reads
-use Rattle.answers.proofs.tally.more.Reads as more-reads
+use Rattle.recorded.proofs.tally.counted.Reads as counted-reads
 
 abbrev Inv-loop : tie.InvT-loop
-Inv-loop agree₀ i₀ agree i = i ≤ 5
+Inv-loop t₀ i₀ t i = i ≤ 5
 
 abbrev μ-loop : tie.MeasureT-loop
-μ-loop agree₀ i₀ agree i = 5 - i
+μ-loop t₀ i₀ t i = 5 - i
 
 loop-holds : tie.Need-loop-holds Inv-loop μ-loop
 loop-holds c = search needs
@@ -29,8 +29,8 @@ array-copy-out-agrees c = search needs
 agrees-requires : tie.Need-agrees-requires Inv-loop μ-loop
 agrees-requires c κs = search needs
 
-more-requires : tie.Need-more-requires Inv-loop μ-loop
-more-requires c κs = search needs
+counted-requires : tie.Need-counted-requires Inv-loop μ-loop
+counted-requires c κs = search needs
 
 add-i : tie.Need-add-i Inv-loop μ-loop
 add-i c = search needs
@@ -54,7 +54,7 @@ agreeing-spec =
     mul-agrees
     array-copy-out-agrees
     agrees-requires
-    more-requires
+    counted-requires
     add-i
     loop-less
     loop-again

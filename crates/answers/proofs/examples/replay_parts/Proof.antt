@@ -6,7 +6,7 @@ use Rattle.answers.proofs.examples.replay_parts.Tie as tie
 use Rattle.answers.proofs.examples.replay_parts.Reads as reads
 use Rattle.answers.proofs.examples.replay_parts.Lts as lts
 use Rattle.answers.proofs.examples.replay.Reads as replay-reads
-use Rattle.answers.proofs.layout.product.Reads as product-reads
+use Rattle.recorded.proofs.layout.product.Reads as product-reads
 
 product-requires : tie.Need-product-requires
 product-requires c κs = search needs

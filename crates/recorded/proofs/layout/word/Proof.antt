@@ -1,0 +1,21 @@
+use borrow.Author.Needs.{needs}
+use native.Mathlib.Omega.{arith}
+use mathlib.Core.Path.{refl, sym, _∙_}
+use Rattle.recorded.proofs.Laws.{word-past}
+use Rattle.recorded.proofs.layout.word.Statement.{statement}
+use Rattle.recorded.proofs.layout.word.Tie as tie
+use Rattle.recorded.proofs.layout.word.Reads as reads
+use Rattle.recorded.proofs.layout.word.Lts as lts
+use Rattle.recorded.proofs.layout.held_word.Reads as held-word-reads
+
+held-word-requires : tie.Need-held-word-requires
+held-word-requires c κs = search needs
+
+returns : tie.Need-returns
+returns c = search needs
+
+returns-2 : tie.Need-returns-2
+returns-2 c = sym (word-past _ _ (omega arith))
+
+pub word-spec : {M : Type 1} → statement M
+word-spec = tie.close (tie.spec held-word-requires returns returns-2)
