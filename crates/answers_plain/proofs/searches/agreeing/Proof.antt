@@ -1,0 +1,58 @@
+use borrow.Author.Needs.{needs}
+use Prim.Native.Nat.{ℕ, suc, _+_, _*_, _-_, _≤_, _<_}
+use mathlib.Core.Path.{_≡_, refl, sym, _∙_, ap}
+use native.Mathlib.Omega.{arith}
+use native.Mathlib.Numerals.{add-one}
+use lib.ListN.{length, getD, drop, take}
+use Rattle.answers_plain.proofs.searches.agreeing.Statement.{statement}
+use Rattle.answers_plain.proofs.searches.agreeing.Tie as tie
+use Rattle.answers_plain.proofs.searches.agreeing.Reads as reads
+use Rattle.answers_plain.proofs.searches.agreeing.Lts as lts
+use Rattle.answers_plain.proofs.searches.agrees.Reads as agrees-reads
+use Rattle.answers_plain.proofs.searches.example.Reads as example-reads
+use Rattle.recorded.proofs.tally.counted.Reads as counted-reads
+
+abbrev Inv-loop : tie.InvT-loop
+Inv-loop t₀ i₀ t i = i ≤ 35
+
+abbrev μ-loop : tie.MeasureT-loop
+μ-loop t₀ i₀ t i = 35 - i
+
+loop-holds : tie.Need-loop-holds Inv-loop μ-loop
+loop-holds c = search needs
+
+example-requires : tie.Need-example-requires Inv-loop μ-loop
+example-requires c κs = search needs
+
+agrees-requires : tie.Need-agrees-requires Inv-loop μ-loop
+agrees-requires c κs = search needs
+
+counted-requires : tie.Need-counted-requires Inv-loop μ-loop
+counted-requires c κs = search needs
+
+add-i : tie.Need-add-i Inv-loop μ-loop
+add-i c = search needs
+
+loop-less : tie.Need-loop-less Inv-loop μ-loop
+loop-less c = search needs
+
+loop-again : tie.Need-loop-again Inv-loop μ-loop
+loop-again c = search needs
+
+returns : tie.Need-returns Inv-loop μ-loop
+returns c = search needs
+
+pub agreeing-spec : {M : Type 1} → statement M
+agreeing-spec =
+    tie.close
+    (tie.spec
+    Inv-loop
+    μ-loop
+    loop-holds
+    example-requires
+    agrees-requires
+    counted-requires
+    add-i
+    loop-less
+    loop-again
+    returns)

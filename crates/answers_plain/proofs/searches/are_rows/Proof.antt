@@ -1,0 +1,63 @@
+use borrow.Author.Needs.{needs}
+use Prim.Native.Nat.{ℕ, suc, _+_, _*_, _-_, _≤_, _<_}
+use mathlib.Core.Path.{_≡_, refl, sym, _∙_, ap}
+use native.Mathlib.Omega.{arith}
+use native.Mathlib.Numerals.{add-one}
+use lib.ListN.{length, getD, drop, take}
+use Rattle.answers_plain.proofs.searches.are_rows.Statement.{statement}
+use Rattle.answers_plain.proofs.searches.are_rows.Tie as tie
+use Rattle.answers_plain.proofs.searches.are_rows.Reads as reads
+use Rattle.answers_plain.proofs.searches.are_rows.Lts as lts
+
+abbrev Inv-loop : tie.InvT-loop
+Inv-loop s list j₀ j-end j = j ≤ length s
+
+abbrev μ-loop : tie.MeasureT-loop
+μ-loop s list j₀ j-end j = length s - j
+
+loop-holds : tie.Need-loop-holds Inv-loop μ-loop
+loop-holds c = search needs
+
+mul-row : tie.Need-mul-row Inv-loop μ-loop
+mul-row c = search needs
+
+array-read-row : tie.Need-array-read-row Inv-loop μ-loop
+array-read-row c = search needs
+
+mul-if2 : tie.Need-mul-if2 Inv-loop μ-loop
+mul-if2 c = search needs
+
+shared-slice-read-if2 : tie.Need-shared-slice-read-if2 Inv-loop μ-loop
+shared-slice-read-if2 c = search needs
+
+returns : tie.Need-returns Inv-loop μ-loop
+returns c = search needs
+
+add-j : tie.Need-add-j Inv-loop μ-loop
+add-j c = search needs
+
+loop-less : tie.Need-loop-less Inv-loop μ-loop
+loop-less c = search needs
+
+loop-again : tie.Need-loop-again Inv-loop μ-loop
+loop-again c = search needs
+
+returns-2 : tie.Need-returns-2 Inv-loop μ-loop
+returns-2 c = search needs
+
+pub are-rows-spec : {M : Type 1} → statement M
+are-rows-spec =
+    tie.close
+    (tie.spec
+    Inv-loop
+    μ-loop
+    loop-holds
+    mul-row
+    array-read-row
+    mul-if2
+    shared-slice-read-if2
+    returns
+    add-j
+    loop-less
+    loop-again
+    returns-2)

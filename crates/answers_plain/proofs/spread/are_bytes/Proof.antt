@@ -1,0 +1,56 @@
+use borrow.Author.Needs.{needs}
+use Prim.Native.Nat.{ℕ, suc, _+_, _*_, _-_, _≤_, _<_}
+use mathlib.Core.Path.{_≡_, refl, sym, _∙_, ap}
+use native.Mathlib.Omega.{arith}
+use native.Mathlib.Numerals.{add-one}
+use lib.ListN.{length, getD, drop, take}
+use Rattle.answers_plain.proofs.spread.are_bytes.Statement.{statement}
+use Rattle.answers_plain.proofs.spread.are_bytes.Tie as tie
+use Rattle.answers_plain.proofs.spread.are_bytes.Reads as reads
+use Rattle.answers_plain.proofs.spread.are_bytes.Lts as lts
+use Rattle.answers_plain.proofs.spread.byte.Reads as byte-reads
+
+abbrev Inv-loop : tie.InvT-loop
+Inv-loop first last s j₀ j-end j = j ≤ length s
+
+abbrev μ-loop : tie.MeasureT-loop
+μ-loop first last s j₀ j-end j = length s - j
+
+loop-holds : tie.Need-loop-holds Inv-loop μ-loop
+loop-holds c = search needs
+
+shared-slice-read-if1 : tie.Need-shared-slice-read-if1 Inv-loop μ-loop
+shared-slice-read-if1 c = search needs
+
+byte-requires : tie.Need-byte-requires Inv-loop μ-loop
+byte-requires c κs = search needs
+
+returns : tie.Need-returns Inv-loop μ-loop
+returns c = search needs
+
+add-j : tie.Need-add-j Inv-loop μ-loop
+add-j c = search needs
+
+loop-less : tie.Need-loop-less Inv-loop μ-loop
+loop-less c = search needs
+
+loop-again : tie.Need-loop-again Inv-loop μ-loop
+loop-again c = search needs
+
+returns-2 : tie.Need-returns-2 Inv-loop μ-loop
+returns-2 c = search needs
+
+pub are-bytes-spec : {M : Type 1} → statement M
+are-bytes-spec =
+    tie.close
+    (tie.spec
+    Inv-loop
+    μ-loop
+    loop-holds
+    shared-slice-read-if1
+    byte-requires
+    returns
+    add-j
+    loop-less
+    loop-again
+    returns-2)
