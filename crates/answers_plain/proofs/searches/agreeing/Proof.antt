@@ -9,7 +9,8 @@ use Rattle.answers_plain.proofs.searches.agreeing.Tie as tie
 use Rattle.answers_plain.proofs.searches.agreeing.Reads as reads
 use Rattle.answers_plain.proofs.searches.agreeing.Lts as lts
 use Rattle.answers_plain.proofs.searches.agrees.Reads as agrees-reads
-use Rattle.answers_plain.proofs.searches.example.Reads as example-reads
+use Rattle.answers_plain.proofs.searches.numbers.Reads as numbers-reads
+use Rattle.answers_plain.proofs.searches.values.Reads as values-reads
 use Rattle.recorded.proofs.tally.counted.Reads as counted-reads
 
 abbrev Inv-loop : tie.InvT-loop
@@ -21,8 +22,11 @@ abbrev μ-loop : tie.MeasureT-loop
 loop-holds : tie.Need-loop-holds Inv-loop μ-loop
 loop-holds c = search needs
 
-example-requires : tie.Need-example-requires Inv-loop μ-loop
-example-requires c κs = search needs
+numbers-requires : tie.Need-numbers-requires Inv-loop μ-loop
+numbers-requires c κs = search needs
+
+values-requires : tie.Need-values-requires Inv-loop μ-loop
+values-requires c κs = search needs
 
 agrees-requires : tie.Need-agrees-requires Inv-loop μ-loop
 agrees-requires c κs = search needs
@@ -49,7 +53,8 @@ agreeing-spec =
     Inv-loop
     μ-loop
     loop-holds
-    example-requires
+    numbers-requires
+    values-requires
     agrees-requires
     counted-requires
     add-i

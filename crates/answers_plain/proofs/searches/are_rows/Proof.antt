@@ -8,15 +8,19 @@ use Rattle.answers_plain.proofs.searches.are_rows.Statement.{statement}
 use Rattle.answers_plain.proofs.searches.are_rows.Tie as tie
 use Rattle.answers_plain.proofs.searches.are_rows.Reads as reads
 use Rattle.answers_plain.proofs.searches.are_rows.Lts as lts
+use Rattle.lists.proofs.wide.Reads as wide-reads
 
 abbrev Inv-loop : tie.InvT-loop
-Inv-loop s list j₀ j-end j = j ≤ length s
+Inv-loop s e j₀ j-end j = j ≤ length s
 
 abbrev μ-loop : tie.MeasureT-loop
-μ-loop s list j₀ j-end j = length s - j
+μ-loop s e j₀ j-end j = length s - j
 
 loop-holds : tie.Need-loop-holds Inv-loop μ-loop
 loop-holds c = search needs
+
+add-row : tie.Need-add-row Inv-loop μ-loop
+add-row c = search needs
 
 mul-row : tie.Need-mul-row Inv-loop μ-loop
 mul-row c = search needs
@@ -24,11 +28,14 @@ mul-row c = search needs
 array-read-row : tie.Need-array-read-row Inv-loop μ-loop
 array-read-row c = search needs
 
-mul-if2 : tie.Need-mul-if2 Inv-loop μ-loop
-mul-if2 c = search needs
+mul-wide : tie.Need-mul-wide Inv-loop μ-loop
+mul-wide c = search needs
 
-shared-slice-read-if2 : tie.Need-shared-slice-read-if2 Inv-loop μ-loop
-shared-slice-read-if2 c = search needs
+shared-slice-read-wide : tie.Need-shared-slice-read-wide Inv-loop μ-loop
+shared-slice-read-wide c = search needs
+
+wide-requires : tie.Need-wide-requires Inv-loop μ-loop
+wide-requires c κs = search needs
 
 returns : tie.Need-returns Inv-loop μ-loop
 returns c = search needs
@@ -52,10 +59,12 @@ are-rows-spec =
     Inv-loop
     μ-loop
     loop-holds
+    add-row
     mul-row
     array-read-row
-    mul-if2
-    shared-slice-read-if2
+    mul-wide
+    shared-slice-read-wide
+    wide-requires
     returns
     add-j
     loop-less

@@ -9,7 +9,9 @@ use Rattle.answers_plain.proofs.trainings.agreeing.Tie as tie
 use Rattle.answers_plain.proofs.trainings.agreeing.Reads as reads
 use Rattle.answers_plain.proofs.trainings.agreeing.Lts as lts
 use Rattle.answers_plain.proofs.trainings.agrees.Reads as agrees-reads
-use Rattle.answers_plain.proofs.trainings.example.Reads as example-reads
+use Rattle.answers_plain.proofs.trainings.first_draw.Reads as first-draw-reads
+use Rattle.answers_plain.proofs.trainings.numbers.Reads as numbers-reads
+use Rattle.answers_plain.proofs.trainings.values.Reads as values-reads
 use Rattle.recorded.proofs.tally.counted.Reads as counted-reads
 
 abbrev Inv-loop : tie.InvT-loop
@@ -21,8 +23,14 @@ abbrev μ-loop : tie.MeasureT-loop
 loop-holds : tie.Need-loop-holds Inv-loop μ-loop
 loop-holds c = search needs
 
-example-requires : tie.Need-example-requires Inv-loop μ-loop
-example-requires c κs = search needs
+numbers-requires : tie.Need-numbers-requires Inv-loop μ-loop
+numbers-requires c κs = search needs
+
+values-requires : tie.Need-values-requires Inv-loop μ-loop
+values-requires c κs = search needs
+
+first-draw-requires : tie.Need-first-draw-requires Inv-loop μ-loop
+first-draw-requires c κs = search needs
 
 agrees-requires : tie.Need-agrees-requires Inv-loop μ-loop
 agrees-requires c κs = search needs
@@ -49,7 +57,9 @@ agreeing-spec =
     Inv-loop
     μ-loop
     loop-holds
-    example-requires
+    numbers-requires
+    values-requires
+    first-draw-requires
     agrees-requires
     counted-requires
     add-i

@@ -4,26 +4,29 @@ use mathlib.Core.Path.{_≡_, refl, sym, _∙_, ap}
 use native.Mathlib.Omega.{arith}
 use native.Mathlib.Numerals.{add-one}
 use lib.ListN.{length, getD, drop, take}
-use Rattle.answers_plain.proofs.spread.are_bytes.Statement.{statement}
-use Rattle.answers_plain.proofs.spread.are_bytes.Tie as tie
-use Rattle.answers_plain.proofs.spread.are_bytes.Reads as reads
-use Rattle.answers_plain.proofs.spread.are_bytes.Lts as lts
-use Rattle.answers_plain.proofs.spread.byte.Reads as byte-reads
+use Rattle.answers_plain.proofs.spread.are_zeros_and.Statement.{statement}
+use Rattle.answers_plain.proofs.spread.are_zeros_and.Tie as tie
+use Rattle.answers_plain.proofs.spread.are_zeros_and.Reads as reads
+use Rattle.answers_plain.proofs.spread.are_zeros_and.Lts as lts
+use Rattle.answers_plain.proofs.spread.narrow.Reads as narrow-reads
 
 abbrev Inv-loop : tie.InvT-loop
-Inv-loop first last s j₀ j-end j = j ≤ length s
+Inv-loop last s j₀ j-end j = j ≤ length s
 
 abbrev μ-loop : tie.MeasureT-loop
-μ-loop first last s j₀ j-end j = length s - j
+μ-loop last s j₀ j-end j = length s - j
 
 loop-holds : tie.Need-loop-holds Inv-loop μ-loop
 loop-holds c = search needs
 
-shared-slice-read-if1 : tie.Need-shared-slice-read-if1 Inv-loop μ-loop
-shared-slice-read-if1 c = search needs
+sub-if1 : tie.Need-sub-if1 Inv-loop μ-loop
+sub-if1 c = search needs
 
-byte-requires : tie.Need-byte-requires Inv-loop μ-loop
-byte-requires c κs = search needs
+narrow-requires : tie.Need-narrow-requires Inv-loop μ-loop
+narrow-requires c κs = search needs
+
+shared-slice-read-if2 : tie.Need-shared-slice-read-if2 Inv-loop μ-loop
+shared-slice-read-if2 c = search needs
 
 returns : tie.Need-returns Inv-loop μ-loop
 returns c = search needs
@@ -40,15 +43,16 @@ loop-again c = search needs
 returns-2 : tie.Need-returns-2 Inv-loop μ-loop
 returns-2 c = search needs
 
-pub are-bytes-spec : {M : Type 1} → statement M
-are-bytes-spec =
+pub are-zeros-and-spec : {M : Type 1} → statement M
+are-zeros-and-spec =
     tie.close
     (tie.spec
     Inv-loop
     μ-loop
     loop-holds
-    shared-slice-read-if1
-    byte-requires
+    sub-if1
+    narrow-requires
+    shared-slice-read-if2
     returns
     add-j
     loop-less
