@@ -1,19 +1,7 @@
 use borrow.Author.Needs.{needs}
-use Prim.Native.Nat.{ℕ, suc, _+_, _*_, _-_, _≤_, _<_}
-use mathlib.Core.Path.{_≡_, refl, sym, _∙_, ap}
-use native.Mathlib.Omega.{arith}
-use native.Mathlib.Numerals.{add-one}
-use lib.ListN.{length, getD, drop, take}
+use Prim.Native.Nat.{_-_, _≤_}
 use Rattle.answers_plain.proofs.replay_all.Statement.{statement}
 use Rattle.answers_plain.proofs.replay_all.Tie as tie
-use Rattle.answers_plain.proofs.replay_all.Reads as reads
-use Rattle.answers_plain.proofs.replay_all.Lts as lts
-use Rattle.answers_plain.proofs.kind_plain.agrees.Reads as agrees-reads
-use Rattle.recorded.proofs.layout.body.Reads as body-reads
-use Rattle.recorded.proofs.layout.cases.Reads as cases-reads
-use Rattle.recorded.proofs.layout.ends.Reads as ends-reads
-use Rattle.recorded.proofs.layout.next.Reads as next-reads
-use Rattle.recorded.proofs.tally.counted.Reads as counted-reads
 
 abbrev Inv-loop : tie.InvT-loop
 Inv-loop file t₀ at₀ i₀ i-end t at i = i ≤ i-end

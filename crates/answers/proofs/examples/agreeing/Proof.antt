@@ -1,15 +1,7 @@
 use borrow.Author.Needs.{needs}
-use Prim.Native.Nat.{ℕ, suc, _+_, _*_, _-_, _≤_, _<_}
-use mathlib.Core.Path.{_≡_, refl, sym, _∙_, ap}
-use native.Mathlib.Omega.{arith}
-use native.Mathlib.Numerals.{add-one}
-use lib.ListN.{length, getD, drop, take}
+use Prim.Native.Nat.{_-_, _≤_}
 use Rattle.answers.proofs.examples.agreeing.Statement.{statement}
 use Rattle.answers.proofs.examples.agreeing.Tie as tie
-use Rattle.answers.proofs.examples.agreeing.Reads as reads
-use Rattle.answers.proofs.examples.agreeing.Lts as lts
-use Rattle.answers.proofs.examples.agrees.Reads as agrees-reads
-use Rattle.recorded.proofs.tally.counted.Reads as counted-reads
 
 abbrev Inv-loop : tie.InvT-loop
 Inv-loop t₀ i₀ t i = i ≤ 5

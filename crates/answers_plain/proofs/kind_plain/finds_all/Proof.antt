@@ -1,16 +1,7 @@
 use borrow.Author.Needs.{needs}
-use Prim.Native.Nat.{ℕ, suc, _+_, _*_, _-_, _≤_, _<_}
-use mathlib.Core.Path.{_≡_, refl, sym, _∙_, ap}
-use native.Mathlib.Omega.{arith}
-use native.Mathlib.Numerals.{add-one}
-use lib.ListN.{length, getD, drop, take}
+use Prim.Native.Nat.{_-_, _≤_}
 use Rattle.answers_plain.proofs.kind_plain.finds_all.Statement.{statement}
 use Rattle.answers_plain.proofs.kind_plain.finds_all.Tie as tie
-use Rattle.answers_plain.proofs.kind_plain.finds_all.Reads as reads
-use Rattle.answers_plain.proofs.kind_plain.finds_all.Lts as lts
-use Rattle.answers_plain.proofs.kind_plain.after_search.Reads as after-search-reads
-use Rattle.answers_plain.proofs.kind_plain.finds.Reads as finds-reads
-use Rattle.recorded.proofs.layout.ends.Reads as ends-reads
 
 abbrev Inv-loop : tie.InvT-loop
 Inv-loop body h begin subs codes at₀ i₀ i-end at i = i ≤ i-end

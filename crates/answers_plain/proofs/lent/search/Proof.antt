@@ -3,9 +3,6 @@ use native.Mathlib.Omega.{arith}
 use lib.ListN.{length-take}
 use Rattle.answers_plain.proofs.lent.search.Statement.{statement}
 use Rattle.answers_plain.proofs.lent.search.Tie as tie
-use Rattle.answers_plain.proofs.lent.search.Reads as reads
-use Rattle.answers_plain.proofs.lent.search.Lts as lts
-use Rattle.pq_idx.proofs.search.search.Reads as search-reads
 
 array-read-a : tie.Need-array-read-a
 array-read-a c = search needs

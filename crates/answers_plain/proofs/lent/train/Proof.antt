@@ -3,9 +3,6 @@ use native.Mathlib.Omega.{arith}
 use lib.ListN.{length-take}
 use Rattle.answers_plain.proofs.lent.train.Statement.{statement}
 use Rattle.answers_plain.proofs.lent.train.Tie as tie
-use Rattle.answers_plain.proofs.lent.train.Reads as reads
-use Rattle.answers_plain.proofs.lent.train.Lts as lts
-use Rattle.pq_idx.proofs.training.train.Reads as train-reads
 
 array-read-a : tie.Need-array-read-a
 array-read-a c = search needs

@@ -1,14 +1,8 @@
 use borrow.Author.Needs.{needs}
-use Prim.Native.Nat.{ℕ, suc, _+_, _*_, _-_, _≤_, _<_}
-use mathlib.Core.Path.{_≡_, refl, sym, _∙_, ap}
-use native.Mathlib.Omega.{arith}
-use native.Mathlib.Numerals.{add-one}
-use lib.ListN.{length, getD, drop, take}
+use Prim.Native.Nat.{_-_, _≤_}
+use lib.ListN.{length}
 use Rattle.answers_plain.proofs.searches.are_rows.Statement.{statement}
 use Rattle.answers_plain.proofs.searches.are_rows.Tie as tie
-use Rattle.answers_plain.proofs.searches.are_rows.Reads as reads
-use Rattle.answers_plain.proofs.searches.are_rows.Lts as lts
-use Rattle.lists.proofs.wide.Reads as wide-reads
 
 abbrev Inv-loop : tie.InvT-loop
 Inv-loop s e j₀ j-end j = j ≤ length s

@@ -1,14 +1,8 @@
 use borrow.Author.Needs.{needs}
-use Prim.Native.Nat.{ℕ, suc, _+_, _*_, _-_, _≤_, _<_}
-use mathlib.Core.Path.{_≡_, refl, sym, _∙_, ap}
-use native.Mathlib.Omega.{arith}
-use native.Mathlib.Numerals.{add-one}
-use lib.ListN.{length, getD, drop, take}
+use Prim.Native.Nat.{_-_, _≤_}
+use lib.ListN.{length}
 use Rattle.answers_plain.proofs.spread.are_zeros_and.Statement.{statement}
 use Rattle.answers_plain.proofs.spread.are_zeros_and.Tie as tie
-use Rattle.answers_plain.proofs.spread.are_zeros_and.Reads as reads
-use Rattle.answers_plain.proofs.spread.are_zeros_and.Lts as lts
-use Rattle.answers_plain.proofs.spread.narrow.Reads as narrow-reads
 
 abbrev Inv-loop : tie.InvT-loop
 Inv-loop last s j₀ j-end j = j ≤ length s

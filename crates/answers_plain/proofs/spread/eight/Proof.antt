@@ -1,13 +1,9 @@
 use borrow.Author.Needs.{needs}
-use Prim.Native.Nat.{ℕ, suc, _+_, _*_, _-_, _≤_, _<_}
-use mathlib.Core.Path.{_≡_, refl, sym, _∙_, ap}
-use native.Mathlib.Omega.{arith}
-use native.Mathlib.Numerals.{add-one}
-use lib.ListN.{length, getD, drop, take}
+use Prim.Native.Nat.{_-_, _≤_}
+use mathlib.Core.Path.{_≡_}
+use lib.ListN.{length}
 use Rattle.answers_plain.proofs.spread.eight.Statement.{statement}
 use Rattle.answers_plain.proofs.spread.eight.Tie as tie
-use Rattle.answers_plain.proofs.spread.eight.Reads as reads
-use Rattle.answers_plain.proofs.spread.eight.Lts as lts
 
 abbrev Inv-loop : tie.InvT-loop
 Inv-loop out₀ first j₀ j-end out j = (j ≤ length out₀) × (length out ≡ length out₀)

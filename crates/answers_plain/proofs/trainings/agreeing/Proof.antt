@@ -1,18 +1,7 @@
 use borrow.Author.Needs.{needs}
-use Prim.Native.Nat.{ℕ, suc, _+_, _*_, _-_, _≤_, _<_}
-use mathlib.Core.Path.{_≡_, refl, sym, _∙_, ap}
-use native.Mathlib.Omega.{arith}
-use native.Mathlib.Numerals.{add-one}
-use lib.ListN.{length, getD, drop, take}
+use Prim.Native.Nat.{_-_, _≤_}
 use Rattle.answers_plain.proofs.trainings.agreeing.Statement.{statement}
 use Rattle.answers_plain.proofs.trainings.agreeing.Tie as tie
-use Rattle.answers_plain.proofs.trainings.agreeing.Reads as reads
-use Rattle.answers_plain.proofs.trainings.agreeing.Lts as lts
-use Rattle.answers_plain.proofs.trainings.agrees.Reads as agrees-reads
-use Rattle.answers_plain.proofs.trainings.first_draw.Reads as first-draw-reads
-use Rattle.answers_plain.proofs.trainings.numbers.Reads as numbers-reads
-use Rattle.answers_plain.proofs.trainings.values.Reads as values-reads
-use Rattle.recorded.proofs.tally.counted.Reads as counted-reads
 
 abbrev Inv-loop : tie.InvT-loop
 Inv-loop t₀ i₀ t i = i ≤ 34

@@ -4,9 +4,6 @@ use mathlib.Core.Path.{sym, _∙_}
 use Rattle.recorded.proofs.Laws.{no-nan}
 use Rattle.recorded.proofs.compare.bits.Statement.{statement}
 use Rattle.recorded.proofs.compare.bits.Tie as tie
-use Rattle.recorded.proofs.compare.bits.Reads as reads
-use Rattle.recorded.proofs.compare.bits.Lts as lts
-use Rattle.metrics.proofs.is_finite.Reads as is-finite-reads
 
 is-finite-requires : tie.Need-is-finite-requires
 is-finite-requires c κs = search needs

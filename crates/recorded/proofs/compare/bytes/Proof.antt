@@ -1,21 +1,14 @@
 use borrow.Author.Needs.{needs}
 use Rattle.recorded.specs.Compare.{sameWord}
-use mathlib.Core.Bool.{true, false}
+use mathlib.Core.Bool.{true}
 use borrow.Author.Count.{below-more}
 use borrow.Author.Tests.{eq-eqb, ne-eqb}
 use Rattle.lists.proofs.Tests.{every-of, every-false}
-use Prim.Native.Nat.{ℕ, suc, _+_, _*_, _-_, _≤_, _<_}
-use mathlib.Core.Path.{_≡_, refl, sym, _∙_, ap}
+use Prim.Native.Nat.{ℕ, _-_, _≤_, _<_}
+use mathlib.Core.Path.{_≡_, sym}
 use native.Mathlib.Omega.{arith}
-use native.Mathlib.Numerals.{add-one}
-use lib.ListN.{length, getD, drop, take}
 use Rattle.recorded.proofs.compare.bytes.Statement.{statement}
 use Rattle.recorded.proofs.compare.bytes.Tie as tie
-use Rattle.recorded.proofs.compare.bytes.Reads as reads
-use Rattle.recorded.proofs.compare.bytes.Lts as lts
-use Rattle.recorded.proofs.layout.number_at.Reads as number-at-reads
-use Rattle.recorded.proofs.layout.padded.Reads as padded-reads
-use Rattle.recorded.proofs.layout.word.Reads as word-reads
 
 abbrev Inv-loop : tie.InvT-loop
 Inv-loop body at s k₀ k-end k = (k ≤ k-end) × ((i : ℕ) → i < k → sameWord body at s i ≡ true)

@@ -2,12 +2,10 @@ use borrow.Author.Needs.{needs}
 use lib.Ieee.{nan, binary32, ofBits}
 use Rattle.recorded.proofs.Laws.{same-default}
 use native.Mathlib.Omega.{arith}
-use mathlib.Core.Path.{refl, sym, _∙_}
+use mathlib.Core.Path.{sym}
 use lib.ListN.{List·getD-eq-default}
 use Rattle.recorded.proofs.compare.float_in.Statement.{statement}
 use Rattle.recorded.proofs.compare.float_in.Tie as tie
-use Rattle.recorded.proofs.compare.float_in.Reads as reads
-use Rattle.recorded.proofs.compare.float_in.Lts as lts
 
 mul-result : tie.Need-mul-result
 mul-result c = search needs

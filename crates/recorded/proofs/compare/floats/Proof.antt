@@ -1,20 +1,15 @@
 use borrow.Author.Needs.{needs}
 use Rattle.recorded.specs.Compare.{sameFloat}
-use mathlib.Core.Bool.{true, false}
+use mathlib.Core.Bool.{true}
 use borrow.Author.Count.{below-more}
 use borrow.Author.Tests.{eq-eqb, ne-eqb}
 use Rattle.lists.proofs.Tests.{every-of, every-false}
-use Prim.Native.Nat.{ℕ, suc, _+_, _*_, _-_, _≤_, _<_}
-use mathlib.Core.Path.{_≡_, refl, sym, _∙_, ap}
+use Prim.Native.Nat.{ℕ, _-_, _≤_, _<_}
+use mathlib.Core.Path.{_≡_, sym}
 use native.Mathlib.Omega.{arith}
-use native.Mathlib.Numerals.{add-one}
-use lib.ListN.{length, getD, drop, take}
+use lib.ListN.{length}
 use Rattle.recorded.proofs.compare.floats.Statement.{statement}
 use Rattle.recorded.proofs.compare.floats.Tie as tie
-use Rattle.recorded.proofs.compare.floats.Reads as reads
-use Rattle.recorded.proofs.compare.floats.Lts as lts
-use Rattle.recorded.proofs.compare.bits.Reads as bits-reads
-use Rattle.recorded.proofs.layout.number_at.Reads as number-at-reads
 
 abbrev Inv-loop : tie.InvT-loop
 Inv-loop body at s j₀ j-end j = (j ≤ length s) × ((k : ℕ) → k < j → sameFloat body at s k ≡ true)

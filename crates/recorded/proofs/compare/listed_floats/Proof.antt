@@ -1,20 +1,15 @@
 use borrow.Author.Needs.{needs}
 use Rattle.recorded.specs.Compare.{listedFloat}
-use mathlib.Core.Bool.{true, false}
+use mathlib.Core.Bool.{true}
 use borrow.Author.Count.{below-more}
 use borrow.Author.Tests.{eq-eqb, ne-eqb}
 use Rattle.lists.proofs.Tests.{every-of, every-false}
-use Prim.Native.Nat.{ℕ, suc, _+_, _*_, _-_, _≤_, _<_}
-use mathlib.Core.Path.{_≡_, refl, sym, _∙_, ap}
+use Prim.Native.Nat.{ℕ, _-_, _≤_, _<_}
+use mathlib.Core.Path.{_≡_, sym}
 use native.Mathlib.Omega.{arith}
-use native.Mathlib.Numerals.{add-one}
-use lib.ListN.{length, getD, drop, take}
+use lib.ListN.{length}
 use Rattle.recorded.proofs.compare.listed_floats.Statement.{statement}
 use Rattle.recorded.proofs.compare.listed_floats.Tie as tie
-use Rattle.recorded.proofs.compare.listed_floats.Reads as reads
-use Rattle.recorded.proofs.compare.listed_floats.Lts as lts
-use Rattle.recorded.proofs.compare.bits.Reads as bits-reads
-use Rattle.recorded.proofs.compare.float_in.Reads as float-in-reads
 
 abbrev Inv-loop : tie.InvT-loop
 Inv-loop s list j₀ j-end j = (j ≤ length s) × ((k : ℕ) → k < j → listedFloat s list k ≡ true)

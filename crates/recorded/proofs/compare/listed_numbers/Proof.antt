@@ -1,19 +1,15 @@
 use borrow.Author.Needs.{needs}
 use Rattle.recorded.specs.Compare.{listedNumber}
-use mathlib.Core.Bool.{true, false}
+use mathlib.Core.Bool.{true}
 use borrow.Author.Count.{below-more}
 use borrow.Author.Tests.{eq-eqb, ne-eqb}
 use Rattle.lists.proofs.Tests.{every-of, every-false}
-use Prim.Native.Nat.{ℕ, suc, _+_, _*_, _-_, _≤_, _<_}
-use mathlib.Core.Path.{_≡_, refl, sym, _∙_, ap}
+use Prim.Native.Nat.{ℕ, _-_, _≤_, _<_}
+use mathlib.Core.Path.{_≡_, sym}
 use native.Mathlib.Omega.{arith}
-use native.Mathlib.Numerals.{add-one}
-use lib.ListN.{length, getD, drop, take}
+use lib.ListN.{length}
 use Rattle.recorded.proofs.compare.listed_numbers.Statement.{statement}
 use Rattle.recorded.proofs.compare.listed_numbers.Tie as tie
-use Rattle.recorded.proofs.compare.listed_numbers.Reads as reads
-use Rattle.recorded.proofs.compare.listed_numbers.Lts as lts
-use Rattle.recorded.proofs.compare.number_in.Reads as number-in-reads
 
 abbrev Inv-loop : tie.InvT-loop
 Inv-loop s list j₀ j-end j = (j ≤ length s) × ((k : ℕ) → k < j → listedNumber s list k ≡ true)

@@ -1,11 +1,9 @@
 use borrow.Author.Needs.{needs}
 use native.Mathlib.Omega.{arith}
-use mathlib.Core.Path.{refl, sym, _∙_}
+use mathlib.Core.Path.{sym}
 use lib.ListN.{List·getD-eq-default}
 use Rattle.recorded.proofs.compare.number_in.Statement.{statement}
 use Rattle.recorded.proofs.compare.number_in.Tie as tie
-use Rattle.recorded.proofs.compare.number_in.Reads as reads
-use Rattle.recorded.proofs.compare.number_in.Lts as lts
 
 mul-result : tie.Need-mul-result
 mul-result c = search needs

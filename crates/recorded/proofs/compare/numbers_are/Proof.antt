@@ -1,18 +1,15 @@
 use borrow.Author.Needs.{needs}
 use Rattle.recorded.specs.Compare.{isNumber}
-use mathlib.Core.Bool.{true, false}
+use mathlib.Core.Bool.{true}
 use borrow.Author.Count.{below-more}
 use borrow.Author.Tests.{eq-eqb, ne-eqb}
 use Rattle.lists.proofs.Tests.{every-of, every-false}
-use Prim.Native.Nat.{ℕ, suc, _+_, _*_, _-_, _≤_, _<_}
-use mathlib.Core.Path.{_≡_, refl, sym, _∙_, ap}
+use Prim.Native.Nat.{ℕ, _-_, _≤_, _<_}
+use mathlib.Core.Path.{_≡_, sym}
 use native.Mathlib.Omega.{arith}
-use native.Mathlib.Numerals.{add-one}
-use lib.ListN.{length, getD, drop, take}
+use lib.ListN.{length}
 use Rattle.recorded.proofs.compare.numbers_are.Statement.{statement}
 use Rattle.recorded.proofs.compare.numbers_are.Tie as tie
-use Rattle.recorded.proofs.compare.numbers_are.Reads as reads
-use Rattle.recorded.proofs.compare.numbers_are.Lts as lts
 
 abbrev Inv-loop : tie.InvT-loop
 Inv-loop s v j₀ j-end j = (j ≤ length s) × ((k : ℕ) → k < j → isNumber s v k ≡ true)

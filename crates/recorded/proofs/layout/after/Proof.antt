@@ -3,14 +3,11 @@ use Prim.Native.Nat.{_+_}
 use lib.Dec.{ltb}
 use Rattle.recorded.specs.Layout.{placeAfter, far}
 use Rattle.recorded.specs.Layout.{placeAfter}
-use native.Mathlib.Omega.{arith}
-use mathlib.Core.Path.{refl, sym, _∙_}
-use borrow.Author.Tests.{lt-ltb, le-ltb, eq-eqb, ne-eqb}
+use mathlib.Core.Path.{sym}
+use borrow.Author.Tests.{lt-ltb, le-ltb}
 use Rattle.recorded.proofs.Laws.{cond-left, cond-right, cond-both}
 use Rattle.recorded.proofs.layout.after.Statement.{statement}
 use Rattle.recorded.proofs.layout.after.Tie as tie
-use Rattle.recorded.proofs.layout.after.Reads as reads
-use Rattle.recorded.proofs.layout.after.Lts as lts
 
 returns : tie.Need-returns
 unfolding placeAfter

@@ -1,17 +1,9 @@
 use borrow.Author.Needs.{needs}
 use borrow.Author.Tests.{not-true, not-false}
-use native.Mathlib.Omega.{arith}
-use mathlib.Core.Path.{refl, sym, _∙_}
+use mathlib.Core.Path.{sym, _∙_}
 use Rattle.recorded.specs.Layout.{bodyOf}
 use Rattle.recorded.proofs.layout.body.Statement.{statement}
 use Rattle.recorded.proofs.layout.body.Tie as tie
-use Rattle.recorded.proofs.layout.body.Reads as reads
-use Rattle.recorded.proofs.layout.body.Lts as lts
-use Rattle.recorded.proofs.layout.after.Reads as after-reads
-use Rattle.recorded.proofs.layout.count.Reads as count-reads
-use Rattle.recorded.proofs.layout.from.Reads as from-reads
-use Rattle.recorded.proofs.layout.is_case.Reads as is-case-reads
-use Rattle.recorded.proofs.parts.bytes.Reads as bytes-reads
 
 is-case-requires : tie.Need-is-case-requires
 is-case-requires c κs = search needs

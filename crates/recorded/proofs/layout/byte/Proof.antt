@@ -1,11 +1,9 @@
 use borrow.Author.Needs.{needs}
 use native.Mathlib.Omega.{arith}
-use mathlib.Core.Path.{refl, sym, _∙_}
+use mathlib.Core.Path.{sym}
 use lib.ListN.{List·getD-eq-default}
 use Rattle.recorded.proofs.layout.byte.Statement.{statement}
 use Rattle.recorded.proofs.layout.byte.Tie as tie
-use Rattle.recorded.proofs.layout.byte.Reads as reads
-use Rattle.recorded.proofs.layout.byte.Lts as lts
 
 shared-slice-read-result : tie.Need-shared-slice-read-result
 shared-slice-read-result c = search needs

@@ -1,14 +1,9 @@
 use borrow.Author.Needs.{needs}
 use Rattle.recorded.specs.Layout.{casesOf}
-use native.Mathlib.Omega.{arith}
-use mathlib.Core.Path.{refl, sym, _∙_}
+use mathlib.Core.Path.{sym, _∙_}
 use Rattle.recorded.proofs.Laws.{cond-yes, cond-no}
 use Rattle.recorded.proofs.layout.cases.Statement.{statement}
 use Rattle.recorded.proofs.layout.cases.Tie as tie
-use Rattle.recorded.proofs.layout.cases.Reads as reads
-use Rattle.recorded.proofs.layout.cases.Lts as lts
-use Rattle.recorded.proofs.layout.count.Reads as count-reads
-use Rattle.recorded.proofs.layout.word.Reads as word-reads
 
 word-requires : tie.Need-word-requires
 word-requires c κs = search needs

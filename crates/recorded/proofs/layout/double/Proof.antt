@@ -1,12 +1,9 @@
-use borrow.Author.Needs.{needs}
 use Rattle.recorded.specs.Layout.{doubleOf}
 use lib.Ieee.{nanBits}
-use borrow.Author.Tests.{lt-ltb, le-ltb, eq-eqb, ne-eqb}
+use borrow.Author.Tests.{eq-eqb, ne-eqb}
 use Rattle.recorded.proofs.Laws.{other-exponent}
 use Rattle.recorded.proofs.layout.double.Statement.{statement}
 use Rattle.recorded.proofs.layout.double.Tie as tie
-use Rattle.recorded.proofs.layout.double.Reads as reads
-use Rattle.recorded.proofs.layout.double.Lts as lts
 
 float-from-bits-result : tie.Need-float-from-bits-result
 unfolding nanBits

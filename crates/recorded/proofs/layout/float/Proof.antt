@@ -1,12 +1,9 @@
-use borrow.Author.Needs.{needs}
 use Rattle.recorded.specs.Layout.{floatOf}
 use lib.Ieee.{nanBits}
-use borrow.Author.Tests.{lt-ltb, le-ltb, eq-eqb, ne-eqb}
+use borrow.Author.Tests.{eq-eqb, ne-eqb}
 use Rattle.recorded.proofs.Laws.{other-exponent}
 use Rattle.recorded.proofs.layout.float.Statement.{statement}
 use Rattle.recorded.proofs.layout.float.Tie as tie
-use Rattle.recorded.proofs.layout.float.Reads as reads
-use Rattle.recorded.proofs.layout.float.Lts as lts
 
 float-from-bits-result : tie.Need-float-from-bits-result
 unfolding nanBits

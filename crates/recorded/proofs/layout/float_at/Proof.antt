@@ -1,10 +1,6 @@
 use borrow.Author.Needs.{needs}
 use Rattle.recorded.proofs.layout.float_at.Statement.{statement}
 use Rattle.recorded.proofs.layout.float_at.Tie as tie
-use Rattle.recorded.proofs.layout.float_at.Reads as reads
-use Rattle.recorded.proofs.layout.float_at.Lts as lts
-use Rattle.recorded.proofs.layout.float.Reads as float-reads
-use Rattle.recorded.proofs.layout.number_at.Reads as number-at-reads
 
 number-at-requires : tie.Need-number-at-requires
 number-at-requires c κs = search needs

@@ -4,16 +4,11 @@ use Rattle.lists.proofs.Tables.{tab-none, tab-step, tab-done}
 use Rattle.lists.specs.Lists.{tab}
 use lib.Ieee.{nan}
 use mathlib.Core.List.{_++_}
-use Prim.Native.Nat.{ℕ, suc, _+_, _*_, _-_, _≤_, _<_}
-use mathlib.Core.Path.{_≡_, refl, sym, _∙_, ap}
-use native.Mathlib.Omega.{arith}
-use native.Mathlib.Numerals.{add-one}
-use lib.ListN.{length, getD, drop, take}
+use Prim.Native.Nat.{_-_, _≤_}
+use mathlib.Core.Path.{_≡_}
+use lib.ListN.{length, drop}
 use Rattle.recorded.proofs.layout.floats.Statement.{statement}
 use Rattle.recorded.proofs.layout.floats.Tie as tie
-use Rattle.recorded.proofs.layout.floats.Reads as reads
-use Rattle.recorded.proofs.layout.floats.Lts as lts
-use Rattle.recorded.proofs.layout.float_at.Reads as float-at-reads
 
 abbrev Inv-loop : tie.InvT-loop
 Inv-loop s at out₀ j₀ j-end out j = (j ≤ length out₀) × (length out ≡ length out₀) × (out ≡ tab (floatAt s at) j ++ drop j out₀)

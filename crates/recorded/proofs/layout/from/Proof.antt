@@ -4,11 +4,9 @@ use lib.Seq.{take-all}
 use lib.ListN.{length, drop, length-drop}
 use Rattle.recorded.proofs.Laws.{none-from}
 use native.Mathlib.Omega.{arith}
-use mathlib.Core.Path.{refl, sym, _∙_}
+use mathlib.Core.Path.{_∙_}
 use Rattle.recorded.proofs.layout.from.Statement.{statement}
 use Rattle.recorded.proofs.layout.from.Tie as tie
-use Rattle.recorded.proofs.layout.from.Reads as reads
-use Rattle.recorded.proofs.layout.from.Lts as lts
 
 sub-result : tie.Need-sub-result
 sub-result c = search needs

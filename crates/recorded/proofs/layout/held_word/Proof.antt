@@ -2,10 +2,6 @@ use borrow.Author.Needs.{needs}
 use Rattle.recorded.specs.Layout.{wordAt}
 use Rattle.recorded.proofs.layout.held_word.Statement.{statement}
 use Rattle.recorded.proofs.layout.held_word.Tie as tie
-use Rattle.recorded.proofs.layout.held_word.Reads as reads
-use Rattle.recorded.proofs.layout.held_word.Lts as lts
-use Rattle.recorded.proofs.layout.byte.Reads as byte-reads
-use Rattle.recorded.proofs.layout.joined.Reads as joined-reads
 
 mul-a : tie.Need-mul-a
 mul-a c = search needs

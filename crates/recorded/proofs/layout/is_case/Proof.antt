@@ -1,12 +1,6 @@
 use borrow.Author.Needs.{needs}
 use Rattle.recorded.proofs.layout.is_case.Statement.{statement}
 use Rattle.recorded.proofs.layout.is_case.Tie as tie
-use Rattle.recorded.proofs.layout.is_case.Reads as reads
-use Rattle.recorded.proofs.layout.is_case.Lts as lts
-use Rattle.recorded.proofs.layout.after.Reads as after-reads
-use Rattle.recorded.proofs.layout.count.Reads as count-reads
-use Rattle.recorded.proofs.layout.next.Reads as next-reads
-use Rattle.recorded.proofs.layout.word.Reads as word-reads
 
 word-requires : tie.Need-word-requires
 word-requires c κs = search needs

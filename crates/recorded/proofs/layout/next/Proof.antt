@@ -1,10 +1,6 @@
 use borrow.Author.Needs.{needs}
 use Rattle.recorded.proofs.layout.next.Statement.{statement}
 use Rattle.recorded.proofs.layout.next.Tie as tie
-use Rattle.recorded.proofs.layout.next.Reads as reads
-use Rattle.recorded.proofs.layout.next.Lts as lts
-use Rattle.recorded.proofs.layout.after.Reads as after-reads
-use Rattle.recorded.proofs.layout.count.Reads as count-reads
 
 after-requires : tie.Need-after-requires
 after-requires c κs = search needs

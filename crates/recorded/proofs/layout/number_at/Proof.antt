@@ -1,10 +1,6 @@
 use borrow.Author.Needs.{needs}
 use Rattle.recorded.proofs.layout.number_at.Statement.{statement}
 use Rattle.recorded.proofs.layout.number_at.Tie as tie
-use Rattle.recorded.proofs.layout.number_at.Reads as reads
-use Rattle.recorded.proofs.layout.number_at.Lts as lts
-use Rattle.recorded.proofs.layout.after.Reads as after-reads
-use Rattle.recorded.proofs.layout.word.Reads as word-reads
 
 after-requires : tie.Need-after-requires
 after-requires c κs = search needs

@@ -4,13 +4,11 @@ use lib.Dec.{ltb}
 use Rattle.recorded.specs.Layout.{productOf, far}
 use Rattle.recorded.specs.Layout.{productOf}
 use native.Mathlib.Omega.{arith}
-use mathlib.Core.Path.{refl, sym, _∙_}
-use borrow.Author.Tests.{lt-ltb, le-ltb, eq-eqb, ne-eqb}
+use mathlib.Core.Path.{sym}
+use borrow.Author.Tests.{lt-ltb, le-ltb}
 use Rattle.recorded.proofs.Laws.{cond-left, cond-right, cond-both, small-product}
 use Rattle.recorded.proofs.layout.product.Statement.{statement}
 use Rattle.recorded.proofs.layout.product.Tie as tie
-use Rattle.recorded.proofs.layout.product.Reads as reads
-use Rattle.recorded.proofs.layout.product.Lts as lts
 
 returns : tie.Need-returns
 unfolding productOf

@@ -1,12 +1,9 @@
 use borrow.Author.Needs.{needs}
 use native.Mathlib.Omega.{arith}
-use mathlib.Core.Path.{refl, sym, _∙_}
+use mathlib.Core.Path.{sym}
 use Rattle.recorded.proofs.Laws.{word-past}
 use Rattle.recorded.proofs.layout.word.Statement.{statement}
 use Rattle.recorded.proofs.layout.word.Tie as tie
-use Rattle.recorded.proofs.layout.word.Reads as reads
-use Rattle.recorded.proofs.layout.word.Lts as lts
-use Rattle.recorded.proofs.layout.held_word.Reads as held-word-reads
 
 held-word-requires : tie.Need-held-word-requires
 held-word-requires c κs = search needs

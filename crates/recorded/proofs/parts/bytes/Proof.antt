@@ -2,11 +2,9 @@ use borrow.Author.Needs.{needs}
 use lib.ListN.{length-take}
 use lib.Seq.{take-all}
 use native.Mathlib.Omega.{arith}
-use mathlib.Core.Path.{refl, sym, _∙_}
+use mathlib.Core.Path.{sym}
 use Rattle.recorded.proofs.parts.bytes.Statement.{statement}
 use Rattle.recorded.proofs.parts.bytes.Tie as tie
-use Rattle.recorded.proofs.parts.bytes.Reads as reads
-use Rattle.recorded.proofs.parts.bytes.Lts as lts
 
 returns : tie.Need-returns
 returns c = sym (take-all (c .before .args .n) (c .before .args .s .now) (omega arith))

@@ -2,9 +2,6 @@ use borrow.Author.Needs.{needs}
 use Rattle.recorded.specs.Tally.{countedOf}
 use Rattle.recorded.proofs.tally.counted.Statement.{statement}
 use Rattle.recorded.proofs.tally.counted.Tie as tie
-use Rattle.recorded.proofs.tally.counted.Reads as reads
-use Rattle.recorded.proofs.tally.counted.Lts as lts
-use Rattle.recorded.proofs.tally.more.Reads as more-reads
 
 more-requires : tie.Need-more-requires
 more-requires c κs = search needs

@@ -1,10 +1,8 @@
 use borrow.Author.Needs.{needs}
 use Rattle.recorded.specs.Tally.{moreOf}
-use borrow.Author.Tests.{lt-ltb, le-ltb, eq-eqb, ne-eqb}
+use borrow.Author.Tests.{lt-ltb, le-ltb}
 use Rattle.recorded.proofs.tally.more.Statement.{statement}
 use Rattle.recorded.proofs.tally.more.Tie as tie
-use Rattle.recorded.proofs.tally.more.Reads as reads
-use Rattle.recorded.proofs.tally.more.Lts as lts
 
 add-result : tie.Need-add-result
 add-result c = search needs
