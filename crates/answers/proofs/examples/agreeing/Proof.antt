@@ -12,11 +12,8 @@ abbrev μ-loop : tie.MeasureT-loop
 loop-holds : tie.Need-loop-holds Inv-loop μ-loop
 loop-holds c = search needs
 
-mul-agrees : tie.Need-mul-agrees Inv-loop μ-loop
-mul-agrees c = search needs
-
-array-copy-out-agrees : tie.Need-array-copy-out-agrees Inv-loop μ-loop
-array-copy-out-agrees c = search needs
+example-at-requires : tie.Need-example-at-requires Inv-loop μ-loop
+example-at-requires c κs = search needs
 
 agrees-requires : tie.Need-agrees-requires Inv-loop μ-loop
 agrees-requires c κs = search needs
@@ -43,8 +40,7 @@ agreeing-spec =
     Inv-loop
     μ-loop
     loop-holds
-    mul-agrees
-    array-copy-out-agrees
+    example-at-requires
     agrees-requires
     counted-requires
     add-i
