@@ -35,14 +35,11 @@ commands:
   compare [--cases N] [--seed S] [--kind kmeans|plain|celled|all] [--voice page|library]
   slips [--cases N] [--seed S] [--smallest NUMBER]
   distance-check [--cases N] [--seed S]
-  record [FILE]
-  replay [FILE] [--voice page|library]
+  record [FOLDER]
+  replay [FILE..] [--voice page|library]
   disagree [--voice page|library]
   bench [--voice page|library]
   fuzz [CALLS] [SEED] [--call NUMBER] [--heap]";
-
-/// The recorded answers, as data of the program that replays them.
-const RECORDED: &str = "../crates/answers/data/recorded.bin";
 
 /// Runs the command; the exit code tells whether all is well.
 fn main() -> ExitCode {
@@ -64,7 +61,7 @@ fn main() -> ExitCode {
 /// What the command line says.
 struct Options {
     command: String,
-    file: PathBuf,
+    paths: Vec<PathBuf>,
     cases: Option<usize>,
     seed: u64,
     kinds: Vec<Kind>,
@@ -80,7 +77,7 @@ impl Options {
     fn read(mut words: impl Iterator<Item = String>) -> Option<Options> {
         let mut options = Options {
             command: words.next()?,
-            file: Path::new(env!("CARGO_MANIFEST_DIR")).join(RECORDED),
+            paths: Vec::new(),
             cases: None,
             seed: 1,
             kinds: Kind::ALL.to_vec(),
@@ -101,10 +98,24 @@ impl Options {
                 "--heap" => options.heap = true,
                 flag if flag.starts_with("--") => return None,
                 number if options.command == "fuzz" => options.numbers.push(number.parse().ok()?),
-                file => options.file = PathBuf::from(file),
+                path => options.paths.push(PathBuf::from(path)),
             }
         }
         Some(options)
+    }
+
+    /// The folder to record into, if one is given; none if there are several.
+    fn folder(&self) -> Option<Option<&Path>> {
+        (self.paths.len() <= 1).then(|| self.paths.first().map(PathBuf::as_path))
+    }
+
+    /// The recorded files to replay: those given, or else the file of each kind in its place.
+    fn recorded(&self) -> Vec<PathBuf> {
+        if self.paths.is_empty() {
+            Kind::ALL.into_iter().map(|kind| record::file(kind, None)).collect()
+        } else {
+            self.paths.clone()
+        }
     }
 
     /// The voice set beside the Rust: the library if it is linked, unless another is asked for.
@@ -140,8 +151,8 @@ fn run(options: &Options) -> Option<bool> {
             None => slips::show(cases(10_000), options.seed),
         },
         "distance-check" => distance_check::check(cases(2_000_000), options.seed),
-        "record" => record::record(&options.file),
-        "replay" => replay::replay(options.voice()?, &options.file),
+        "record" => record::record(options.folder()?),
+        "replay" => replay_all(options.voice()?, &options.recorded()),
         "disagree" => disagree::show(options.voice()?),
         "bench" => bench::bench(options.voice()?),
         "fuzz" => fuzz(options),
@@ -163,4 +174,9 @@ fn fuzz(options: &Options) -> bool {
 fn fuzz(_options: &Options) -> bool {
     eprintln!("fuzz calls the library: build with --features library");
     false
+}
+
+/// Replays each file; true if every case of all of them agrees.
+fn replay_all(subject: &dyn Subject, paths: &[PathBuf]) -> bool {
+    paths.iter().fold(true, |agree, path| replay::replay(subject, path) & agree)
 }

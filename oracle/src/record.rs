@@ -1,5 +1,5 @@
-//! The command `record`: writes the Rust's answers to chosen cases into a file that a program can
-//! replay without the Rust.
+//! The command `record`: writes the Rust's answers to chosen cases into files, one for each kind of
+//! case, that a program can replay without the Rust.
 //!
 //! Layout, version 1. Every number is little-endian and starts at a multiple of 4: u32, f32 as its
 //! bits, f64 as its bits (low word first). A list has no length of its own; its length is given in
@@ -7,7 +7,8 @@
 //!
 //! ```text
 //! file     8 bytes "bergrosk", u32 version = 1, u32 cases, then the cases
-//! case     u32 kind (1 k-means, 2 plain, 3 celled), u32 length of the body in bytes, body
+//! case     u32 kind (1 k-means, 2 plain, 3 celled; the same in all of a file), u32 length of the
+//!          body in bytes, body
 //!
 //! k-means  u32 D, n, begin, end, m, has residual (0 or 1), n_center, epochs, draws lent
 //!          f32 rows[n·D], u32 members[m], f32 residual[D] if there is one, f64 draws[draws lent]
@@ -31,7 +32,7 @@
 //! All rows are visible, no case is refused, and blanks stand in the results as document 01 has them.
 
 use std::fs;
-use std::path::Path;
+use std::path::{Path, PathBuf};
 
 use crate::case::*;
 use crate::corners::corners;
@@ -53,22 +54,45 @@ pub mod limits {
     pub const K: usize = 600;
 }
 
-/// Writes the file, then reads it back and replays it with the page; true if all of it agrees.
-pub fn record(path: &Path) -> bool {
+/// The file of a kind, in the folder or, without one, in its place in the repository.
+pub fn file(kind: Kind, folder: Option<&Path>) -> PathBuf {
+    let name = format!("{}.bin", kind.name());
+    let root = Path::new(env!("CARGO_MANIFEST_DIR"));
+    match (folder, kind) {
+        (Some(folder), _) => folder.join(name),
+        (None, Kind::Kmeans) => root.join("../crates/answers/data").join(name),
+        (None, Kind::Plain) => root.join("../crates/answers_plain/data").join(name),
+        (None, Kind::Celled) => root.join("recorded").join(name),
+    }
+}
+
+/// Writes the file of each kind, then reads it back and replays it with the page; true if all of it
+/// agrees.
+pub fn record(folder: Option<&Path>) -> bool {
     let cases = corners();
+    print_corners(&cases);
+    let mut agree = true;
+    for kind in Kind::ALL {
+        agree &= record_kind(&cases, kind, &file(kind, folder));
+    }
+    agree
+}
+
+/// Writes the cases of one kind, then replays them; true if all of them agree.
+fn record_kind(cases: &[(Case, Training)], kind: Kind, path: &Path) -> bool {
+    let chosen: Vec<_> = cases.iter().filter(|(case, _)| case.kind() == kind).collect();
     let mut bytes = MAGIC.to_vec();
-    put(&mut bytes, &[VERSION, cases.len() as u32]);
-    for (case, training) in &cases {
+    put(&mut bytes, &[VERSION, chosen.len() as u32]);
+    for (case, training) in &chosen {
         let body = body(case, training);
-        put(&mut bytes, &[case.kind() as u32 + 1, body.len() as u32]);
+        put(&mut bytes, &[kind as u32 + 1, body.len() as u32]);
         bytes.extend(body);
     }
     if let Err(error) = fs::write(path, &bytes) {
         println!("{}: {error}", path.display());
         return false;
     }
-    println!("recorded {} cases, {} bytes", cases.len(), bytes.len());
-    print_corners(&cases);
+    println!("recorded {} cases of kind {}, {} bytes", chosen.len(), kind.name(), bytes.len());
     replay::replay(&page::Page, path)
 }
 

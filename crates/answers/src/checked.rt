@@ -9,7 +9,7 @@ pub enum Ran {
 }
 
 // Start and epochs.
-pub fn train(
+fn train(
     f: Frame,
     rows: &[f32],
     members: &[u32],
@@ -47,7 +47,7 @@ pub fn train(
 }
 
 // The last assignment; whether it was made.
-pub fn assign(
+fn assign(
     f: Frame,
     rows: &[f32],
     members: &[u32],
@@ -67,7 +67,7 @@ pub fn assign(
 }
 
 // The split of one epoch.
-pub fn split(
+fn split(
     f: Frame,
     rows: &[f32],
     members: &[u32],
@@ -88,4 +88,116 @@ pub fn split(
         return Ran::Unfit;
     }
     Ran::Ended(kmeans::split_center(f, draws, 0, epoch, centers, counts))
+}
+
+// The epochs, and a split after them if there is one to be.
+fn epochs_and_split(
+    f: Frame,
+    epochs: u32,
+    splits: bool,
+    rows: &[f32],
+    members: &[u32],
+    residual: &[f32],
+    draws: &[f64],
+    centers: &mut [f32],
+    assigned: &mut [u32],
+    counts: &mut [u32],
+) -> Ran {
+    let r = train(
+        f,
+        rows,
+        members,
+        residual,
+        draws,
+        epochs,
+        centers,
+        assigned,
+        counts,
+    );
+    if splits {
+        split(
+            f,
+            rows,
+            members,
+            residual,
+            draws,
+            1,
+            centers,
+            assigned,
+            counts,
+        )
+    } else {
+        r
+    }
+}
+
+// The same, and the last assignment.
+fn cluster(
+    f: Frame,
+    epochs: u32,
+    splits: bool,
+    rows: &[f32],
+    members: &[u32],
+    residual: &[f32],
+    draws: &[f64],
+    centers: &mut [f32],
+    assigned: &mut [u32],
+    counts: &mut [u32],
+) -> Ran {
+    let r = epochs_and_split(
+        f,
+        epochs,
+        splits,
+        rows,
+        members,
+        residual,
+        draws,
+        centers,
+        assigned,
+        counts,
+    );
+    if assign(f, rows, members, residual, centers, assigned, counts) {
+        r
+    } else {
+        Ran::Unfit
+    }
+}
+
+// The same in the first elements of larger buffers, as many as the frame says.
+pub fn run(
+    f: Frame,
+    epochs: u32,
+    splits: bool,
+    rows: &[f32],
+    members: &[u32],
+    residual: &[f32],
+    draws: &[f64],
+    centers: &mut [f32],
+    assigned: &mut [u32],
+    counts: &mut [u32],
+) -> Ran {
+    let y = recorded::layout::product(f.centers, f.w);
+    let n = f.n;
+    let c = f.centers;
+    if centers.len() < y {
+        return Ran::Unfit;
+    }
+    if assigned.len() < n {
+        return Ran::Unfit;
+    }
+    if counts.len() < c {
+        return Ran::Unfit;
+    }
+    cluster(
+        f,
+        epochs,
+        splits,
+        rows,
+        members,
+        residual,
+        draws,
+        &mut centers[..y],
+        &mut assigned[..n],
+        &mut counts[..c],
+    )
 }

@@ -4,6 +4,9 @@ ghost use Rattle.kmeans.specs.Kmeans.{numberOf};
 use crate::checked::Ran;
 use kmeans::Clustered;
 use kmeans::Frame;
+use recorded::layout::product;
+use recorded::parts;
+use recorded::tally::Tally;
 
 // Rows of two coordinates, the number of centres, the epochs, whether a split follows, how many of the draws 0.0, 0.25, 0.5, 0.4 are lent;
 // and what comes out: the answer's number, the draws used, the centres, how many rows each has, and the last assignment.
@@ -22,98 +25,100 @@ pub struct Example {
 }
 
 // The number of examples.
-pub const EXAMPLES: usize = 5;
+const EXAMPLES: usize = 5;
 
 // The draws of the examples.
 const DRAWS: [f64; 4] = [0.0, 0.25, 0.5, 0.4];
 
 // Rows (1,2), (3,4), four centres: the start, and the rows assigned to 0 and 1; the average; its split; the split with three draws.
 // And five equal rows, all of which one centre has: a donor count of 5 gives 2 and 3.
-const TABLE: [Example; 5] = [
-    Example {
-        rows: [1.0, 2.0, 3.0, 4.0, 0.0, 0.0, 0.0, 0.0, 0.0, 0.0],
-        n: 2,
-        centers: 4,
-        epochs: 0,
-        splits: false,
-        lent: 0,
-        number: 0,
-        used: 0,
-        at: [1.0, 2.0, 3.0, 2.0, 1.0, 2.0, 3.0, 2.0],
-        counts: [0, 0, 0, 0],
-        assigned: [0, 1, 0, 0, 0],
-    },
-    Example {
-        rows: [1.0, 2.0, 3.0, 4.0, 0.0, 0.0, 0.0, 0.0, 0.0, 0.0],
-        n: 2,
-        centers: 4,
-        epochs: 1,
-        splits: false,
-        lent: 0,
-        number: 0,
-        used: 0,
-        at: [1.0, 2.0, 3.0, 4.0, 0.0, 0.0, 0.0, 0.0],
-        counts: [1, 1, 0, 0],
-        assigned: [0, 1, 0, 0, 0],
-    },
-    Example {
-        rows: [1.0, 2.0, 3.0, 4.0, 0.0, 0.0, 0.0, 0.0, 0.0, 0.0],
-        n: 2,
-        centers: 4,
-        epochs: 1,
-        splits: true,
-        lent: 4,
-        number: 0,
-        used: 4,
-        at: [
-            1.0009765625,
-            1.998046875,
-            3.0029296875,
-            3.99609375,
-            0.9990234375,
-            2.001953125,
-            2.9970703125,
-            4.00390625,
-        ],
-        counts: [1, 1, 0, 0],
-        assigned: [0, 1, 0, 0, 0],
-    },
-    Example {
-        rows: [1.0, 2.0, 3.0, 4.0, 0.0, 0.0, 0.0, 0.0, 0.0, 0.0],
-        n: 2,
-        centers: 4,
-        epochs: 1,
-        splits: true,
-        lent: 3,
-        number: 8,
-        used: 0,
-        at: [0.0, 0.0, 0.0, 0.0, 0.0, 0.0, 0.0, 0.0],
-        counts: [0, 0, 0, 0],
-        assigned: [0, 0, 0, 0, 0],
-    },
-    Example {
-        rows: [1.0, 2.0, 1.0, 2.0, 1.0, 2.0, 1.0, 2.0, 1.0, 2.0],
-        n: 5,
-        centers: 2,
-        epochs: 1,
-        splits: true,
-        lent: 1,
-        number: 0,
-        used: 1,
-        at: [
-            1.0009765625,
-            1.998046875,
-            0.9990234375,
-            2.001953125,
-            0.0,
-            0.0,
-            0.0,
-            0.0,
-        ],
-        counts: [3, 2, 0, 0],
-        assigned: [0, 0, 0, 0, 0],
-    },
-];
+fn example_at(i: usize) -> Example {
+    match i {
+        0 => Example {
+            rows: [1.0, 2.0, 3.0, 4.0, 0.0, 0.0, 0.0, 0.0, 0.0, 0.0],
+            n: 2,
+            centers: 4,
+            epochs: 0,
+            splits: false,
+            lent: 0,
+            number: 0,
+            used: 0,
+            at: [1.0, 2.0, 3.0, 2.0, 1.0, 2.0, 3.0, 2.0],
+            counts: [0, 0, 0, 0],
+            assigned: [0, 1, 0, 0, 0],
+        },
+        1 => Example {
+            rows: [1.0, 2.0, 3.0, 4.0, 0.0, 0.0, 0.0, 0.0, 0.0, 0.0],
+            n: 2,
+            centers: 4,
+            epochs: 1,
+            splits: false,
+            lent: 0,
+            number: 0,
+            used: 0,
+            at: [1.0, 2.0, 3.0, 4.0, 0.0, 0.0, 0.0, 0.0],
+            counts: [1, 1, 0, 0],
+            assigned: [0, 1, 0, 0, 0],
+        },
+        2 => Example {
+            rows: [1.0, 2.0, 3.0, 4.0, 0.0, 0.0, 0.0, 0.0, 0.0, 0.0],
+            n: 2,
+            centers: 4,
+            epochs: 1,
+            splits: true,
+            lent: 4,
+            number: 0,
+            used: 4,
+            at: [
+                1.0009765625,
+                1.998046875,
+                3.0029296875,
+                3.99609375,
+                0.9990234375,
+                2.001953125,
+                2.9970703125,
+                4.00390625,
+            ],
+            counts: [1, 1, 0, 0],
+            assigned: [0, 1, 0, 0, 0],
+        },
+        3 => Example {
+            rows: [1.0, 2.0, 3.0, 4.0, 0.0, 0.0, 0.0, 0.0, 0.0, 0.0],
+            n: 2,
+            centers: 4,
+            epochs: 1,
+            splits: true,
+            lent: 3,
+            number: 8,
+            used: 0,
+            at: [0.0, 0.0, 0.0, 0.0, 0.0, 0.0, 0.0, 0.0],
+            counts: [0, 0, 0, 0],
+            assigned: [0, 0, 0, 0, 0],
+        },
+        _ => Example {
+            rows: [1.0, 2.0, 1.0, 2.0, 1.0, 2.0, 1.0, 2.0, 1.0, 2.0],
+            n: 5,
+            centers: 2,
+            epochs: 1,
+            splits: true,
+            lent: 1,
+            number: 0,
+            used: 1,
+            at: [
+                1.0009765625,
+                1.998046875,
+                0.9990234375,
+                2.001953125,
+                0.0,
+                0.0,
+                0.0,
+                0.0,
+            ],
+            counts: [3, 2, 0, 0],
+            assigned: [0, 0, 0, 0, 0],
+        },
+    }
+}
 
 // An answer's number in document 01.
 fn number(c: Clustered) -> u32
@@ -130,47 +135,6 @@ fn number(c: Clustered) -> u32
             epoch: _,
             center: _,
         } => 9,
-    }
-}
-
-// The epochs of an example, and its split.
-fn run(
-    f: Frame,
-    epochs: u32,
-    splits: bool,
-    rows: &[f32],
-    members: &[u32],
-    residual: &[f32],
-    draws: &[f64],
-    centers: &mut [f32],
-    assigned: &mut [u32],
-    counts: &mut [u32],
-) -> Ran {
-    let r = crate::checked::train(
-        f,
-        rows,
-        members,
-        residual,
-        draws,
-        epochs,
-        centers,
-        assigned,
-        counts,
-    );
-    if splits {
-        crate::checked::split(
-            f,
-            rows,
-            members,
-            residual,
-            draws,
-            1,
-            centers,
-            assigned,
-            counts,
-        )
-    } else {
-        r
     }
 }
 
@@ -198,25 +162,18 @@ fn is_left(e: Example, centers: &[f32], assigned: &[u32], counts: &[u32]) -> boo
     let at = e.at;
     let to = e.assigned;
     let rows = e.counts;
-    if !crate::compare::listed_floats(centers, &at) {
+    if !recorded::compare::listed_floats(centers, &at) {
         return false;
     }
-    if !crate::compare::listed_numbers(assigned, &to) {
+    if !recorded::compare::listed_numbers(assigned, &to) {
         return false;
     }
-    crate::compare::listed_numbers(counts, &rows)
+    recorded::compare::listed_numbers(counts, &rows)
 }
 
-// The example in buffers of exactly its lengths.
-fn replay(
-    e: Example,
-    rows: &[f32],
-    draws: &[f64],
-    centers: &mut [f32],
-    assigned: &mut [u32],
-    counts: &mut [u32],
-) -> bool {
-    let f = Frame {
+// The frame of an example: all rows, of two coordinates.
+fn frame(e: Example) -> Frame {
+    Frame {
         d: 2,
         begin: 0,
         w: 2,
@@ -224,21 +181,11 @@ fn replay(
         has: false,
         n: e.n,
         centers: e.centers,
-    };
-    let members = [0u32; 1];
-    let residual = [0.0f32; 2];
-    let r = run(
-        f,
-        e.epochs,
-        e.splits,
-        rows,
-        &members,
-        &residual,
-        draws,
-        centers,
-        assigned,
-        counts,
-    );
+    }
+}
+
+// Whether what came out is the example's; of a refusal the answer's number alone.
+fn is_same(e: Example, r: Ran, centers: &[f32], assigned: &[u32], counts: &[u32]) -> bool {
     let Ran::Ended(c) = r else {
         return false;
     };
@@ -248,68 +195,44 @@ fn replay(
     let Clustered::Done(_) = c else {
         return true;
     };
-    if !crate::checked::assign(f, rows, &members, &residual, centers, assigned, counts) {
-        return false;
-    }
     is_left(e, centers, assigned, counts)
-}
-
-// The example in the parts of the buffers that it fills.
-fn replay_parts(
-    e: Example,
-    rows: &[f32],
-    draws: &[f64],
-    centers: &mut [f32],
-    assigned: &mut [u32],
-    counts: &mut [u32],
-) -> bool {
-    let n = e.n;
-    let c = e.centers;
-    let t = e.lent;
-    let x = crate::layout::product(n, 2);
-    let y = crate::layout::product(c, 2);
-    if rows.len() < x {
-        return false;
-    }
-    if draws.len() < t {
-        return false;
-    }
-    if centers.len() < y {
-        return false;
-    }
-    if assigned.len() < n {
-        return false;
-    }
-    if counts.len() < c {
-        return false;
-    }
-    replay(
-        e,
-        &rows[..x],
-        &draws[..t],
-        &mut centers[..y],
-        &mut assigned[..n],
-        &mut counts[..c],
-    )
 }
 
 // Whether an example comes out as document 01 says.
 fn agrees(e: Example) -> bool {
     let rows = e.rows;
     let draws = DRAWS;
+    let members = [0u32; 1];
+    let residual = [0.0f32; 2];
     let mut centers = [0.0f32; 8];
     let mut assigned = [0u32; 5];
     let mut counts = [0u32; 4];
-    replay_parts(e, &rows, &draws, &mut centers, &mut assigned, &mut counts)
+    let r = crate::checked::run(
+        frame(e),
+        e.epochs,
+        e.splits,
+        parts::floats(&rows, product(e.n, 2)),
+        &members,
+        &residual,
+        parts::draws(&draws, e.lent),
+        &mut centers,
+        &mut assigned,
+        &mut counts,
+    );
+    is_same(
+        e,
+        r,
+        parts::floats(&centers, product(e.centers, 2)),
+        parts::numbers(&assigned, e.n),
+        parts::numbers(&counts, e.centers),
+    )
 }
 
 // How many of the examples come out as document 01 says.
-pub fn agreeing() -> u64 {
-    let mut agree = 0;
+pub fn agreeing() -> Tally {
+    let mut t = Tally { agree: 0, of: 0 };
     for i in 0..EXAMPLES {
-        if agrees(TABLE[i]) {
-            agree = crate::tally::more(agree);
-        }
+        t = recorded::tally::counted(t, agrees(example_at(i)));
     }
-    agree
+    t
 }

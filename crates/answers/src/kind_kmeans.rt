@@ -1,10 +1,11 @@
 // A recorded k-means: its numbers, its lists and its answer, replayed by our code.
 use crate::checked::Ran;
-use crate::layout::after;
-use crate::layout::count;
-use crate::layout::product;
 use kmeans::Clustered;
 use kmeans::Frame;
+use recorded::layout::after;
+use recorded::layout::count;
+use recorded::layout::product;
+use recorded::parts;
 
 // The numbers before the lists.
 pub struct Numbers {
@@ -43,7 +44,7 @@ fn numbers_of(body: &[u8]) -> Numbers {
         m: count(body, 4),
         has: count(body, 5) == 1,
         centers: count(body, 6),
-        epochs: crate::layout::word(body, 7),
+        epochs: recorded::layout::word(body, 7),
         lent: count(body, 8),
     }
 }
@@ -90,22 +91,6 @@ fn frame(h: Numbers, listed: bool) -> Frame {
     }
 }
 
-// The lists that a case gives. Without a residual no word of its slice is used.
-fn load(
-    body: &[u8],
-    h: Numbers,
-    p: Offsets,
-    rows: &mut [f32],
-    members: &mut [u32],
-    residual: &mut [f32],
-    draws: &mut [f64],
-) {
-    crate::layout::floats(body, ROWS, rows);
-    crate::layout::numbers(body, p.members, members);
-    crate::layout::floats(body, after(p.residual, h.begin), residual);
-    crate::layout::draws(body, p.draws, draws);
-}
-
 // Whether a list of rows names each row of n in order, so that k-means may go over all rows without it.
 fn names_all(members: &[u32], n: usize) -> bool {
     for k in 0..members.len() {
@@ -114,6 +99,23 @@ fn names_all(members: &[u32], n: usize) -> bool {
         }
     }
     members.len() == n
+}
+
+// Whether an answer, the centres and the last assignment are the recorded ones.
+fn is_answer(body: &[u8], p: Offsets, r: Ran, centers: &[f32], assigned: &[u32]) -> bool {
+    let Ran::Ended(c) = r else {
+        return false;
+    };
+    let Clustered::Done(used) = c else {
+        return false;
+    };
+    if used != count(body, p.used) {
+        return false;
+    }
+    if !recorded::compare::floats(body, p.centers, centers) {
+        return false;
+    }
+    recorded::compare::numbers(body, p.assigned, assigned)
 }
 
 // Whether our k-means has the recorded answer, over the list of rows or over all rows.
@@ -126,37 +128,29 @@ fn answers(
     members: &[u32],
     residual: &[f32],
     draws: &[f64],
-    centers: &mut [f32],
-    assigned: &mut [u32],
-    counts: &mut [u32],
 ) -> bool {
-    let r = crate::checked::train(
+    let mut centers = crate::buffers::centers();
+    let mut assigned = [0u32; 512];
+    let mut counts = [0u32; 1_024];
+    let r = crate::checked::run(
         f,
+        epochs,
+        false,
         rows,
         members,
         residual,
         draws,
-        epochs,
-        centers,
-        assigned,
-        counts,
+        &mut centers,
+        &mut assigned,
+        &mut counts,
     );
-    let Ran::Ended(c) = r else {
-        return false;
-    };
-    let Clustered::Done(used) = c else {
-        return false;
-    };
-    if used != count(body, p.used) {
-        return false;
-    }
-    if !crate::checked::assign(f, rows, members, residual, centers, assigned, counts) {
-        return false;
-    }
-    if !crate::compare::floats(body, p.centers, centers) {
-        return false;
-    }
-    crate::compare::numbers(body, p.assigned, assigned)
+    is_answer(
+        body,
+        p,
+        r,
+        parts::floats(&centers, product(f.centers, f.w)),
+        parts::numbers(&assigned, f.n),
+    )
 }
 
 // Whether a case whose lists are loaded agrees: over its list of rows, and if the list names all rows, without it too.
@@ -168,178 +162,41 @@ fn both(
     members: &[u32],
     residual: &[f32],
     draws: &[f64],
-    centers: &mut [f32],
-    assigned: &mut [u32],
-    counts: &mut [u32],
 ) -> bool {
     let f = frame(h, true);
-    let agree = answers(
-        body,
-        p,
-        f,
-        h.epochs,
-        rows,
-        members,
-        residual,
-        draws,
-        centers,
-        assigned,
-        counts,
-    );
-    if !agree {
+    if !answers(body, p, f, h.epochs, rows, members, residual, draws) {
         return false;
     }
     if !names_all(members, h.n) {
         return true;
     }
     let g = frame(h, false);
-    answers(
-        body,
-        p,
-        g,
-        h.epochs,
-        rows,
-        members,
-        residual,
-        draws,
-        centers,
-        assigned,
-        counts,
-    )
+    answers(body, p, g, h.epochs, rows, members, residual, draws)
 }
 
-// The case in buffers of exactly its lengths.
-fn replay(
-    body: &[u8],
-    h: Numbers,
-    p: Offsets,
-    rows: &mut [f32],
-    members: &mut [u32],
-    residual: &mut [f32],
-    draws: &mut [f64],
-    centers: &mut [f32],
-    assigned: &mut [u32],
-    counts: &mut [u32],
-) -> bool {
-    load(body, h, p, rows, members, residual, draws);
+// Whether a recorded k-means agrees. A body that is not of the length that its numbers say, or that the buffers do not hold, does not.
+// Without a residual no word of its slice is used.
+pub fn agrees(body: &[u8]) -> bool {
+    let h = numbers_of(body);
+    let p = offsets_of(h);
+    if !recorded::layout::ends(body, p.end) {
+        return false;
+    }
+    let mut rows = crate::buffers::rows();
+    let mut members = [0u32; 512];
+    let mut residual = [0.0f32; 256];
+    let mut draws = crate::buffers::draws();
+    recorded::layout::floats(body, ROWS, &mut rows);
+    recorded::layout::numbers(body, p.members, &mut members);
+    recorded::layout::floats(body, after(p.residual, h.begin), &mut residual);
+    recorded::layout::draws(body, p.draws, &mut draws);
     both(
         body,
         h,
         p,
-        rows,
-        members,
-        residual,
-        draws,
-        centers,
-        assigned,
-        counts,
-    )
-}
-
-// The case in the parts of the buffers that it fills, x and y being the words of its rows and of its centres, and w its width.
-fn replay_parts(
-    body: &[u8],
-    h: Numbers,
-    x: usize,
-    y: usize,
-    w: usize,
-    rows: &mut [f32],
-    members: &mut [u32],
-    residual: &mut [f32],
-    draws: &mut [f64],
-    centers: &mut [f32],
-    assigned: &mut [u32],
-    counts: &mut [u32],
-) -> bool {
-    let p = offsets_of(h);
-    let m = h.m;
-    let t = h.lent;
-    let c = h.centers;
-    if rows.len() < x {
-        return false;
-    }
-    if members.len() < m {
-        return false;
-    }
-    if residual.len() < w {
-        return false;
-    }
-    if draws.len() < t {
-        return false;
-    }
-    if centers.len() < y {
-        return false;
-    }
-    if assigned.len() < m {
-        return false;
-    }
-    if counts.len() < c {
-        return false;
-    }
-    replay(
-        body,
-        h,
-        p,
-        &mut rows[..x],
-        &mut members[..m],
-        &mut residual[..w],
-        &mut draws[..t],
-        &mut centers[..y],
-        &mut assigned[..m],
-        &mut counts[..c],
-    )
-}
-
-// Whether a recorded k-means agrees. A body that is not of the length that its numbers say, or that the buffers do not hold, does not.
-fn replay_whole(
-    body: &[u8],
-    rows: &mut [f32],
-    members: &mut [u32],
-    residual: &mut [f32],
-    draws: &mut [f64],
-    centers: &mut [f32],
-    assigned: &mut [u32],
-    counts: &mut [u32],
-) -> bool {
-    let h = numbers_of(body);
-    let p = offsets_of(h);
-    if p.end != body.len() / 4 {
-        return false;
-    }
-    let w = width(h);
-    replay_parts(
-        body,
-        h,
-        product(h.n, h.d),
-        product(h.centers, w),
-        w,
-        rows,
-        members,
-        residual,
-        draws,
-        centers,
-        assigned,
-        counts,
-    )
-}
-
-// The same, in buffers for the largest k-means that the file may have.
-pub fn agrees(body: &[u8]) -> bool {
-    let mut rows = [0.0f32; 16_384];
-    let mut members = [0u32; 512];
-    let mut residual = [0.0f32; 256];
-    let mut draws = [0.0f64; 20_000];
-    let mut centers = [0.0f32; 65_536];
-    let mut assigned = [0u32; 512];
-    let mut counts = [0u32; 1_024];
-    replay_whole(
-        body,
-        &mut rows,
-        &mut members,
-        &mut residual,
-        &mut draws,
-        &mut centers,
-        &mut assigned,
-        &mut counts,
+        parts::floats(&rows, product(h.n, h.d)),
+        parts::numbers(&members, h.m),
+        parts::floats(&residual, width(h)),
+        parts::draws(&draws, h.lent),
     )
 }

@@ -1,25 +1,13 @@
 use borrow.Author.Needs.{needs}
-use Prim.Native.Nat.{ℕ, suc, _+_, _*_, _-_, _≤_, _<_}
-use mathlib.Core.Path.{_≡_, refl, sym, _∙_, ap}
-use native.Mathlib.Omega.{arith}
-use native.Mathlib.Numerals.{add-one}
-use lib.ListN.{length, getD, drop, take}
+use Prim.Native.Nat.{_-_, _≤_}
 use Rattle.answers.proofs.replay_all.Statement.{statement}
 use Rattle.answers.proofs.replay_all.Tie as tie
-use Rattle.answers.proofs.replay_all.Reads as reads
-use Rattle.answers.proofs.replay_all.Lts as lts
-use Rattle.answers.proofs.cases.Reads as cases-reads
-use Rattle.answers.proofs.replay_next.Reads as replay-next-reads
-use Rattle.answers.proofs.tally.Tally.new.Reads as new-reads
 
 abbrev Inv-loop : tie.InvT-loop
-Inv-loop fd t₀ i₀ i-end t i = Unit {0}
+Inv-loop file t₀ at₀ i₀ i-end t at i = i ≤ i-end
 
 abbrev μ-loop : tie.MeasureT-loop
-μ-loop fd t₀ i₀ i-end t i = i-end - i
-
-new-requires : tie.Need-new-requires Inv-loop μ-loop
-new-requires c κs = search needs
+μ-loop file t₀ at₀ i₀ i-end t at i = i-end - i
 
 cases-requires : tie.Need-cases-requires Inv-loop μ-loop
 cases-requires c κs = search needs
@@ -27,11 +15,17 @@ cases-requires c κs = search needs
 loop-holds : tie.Need-loop-holds Inv-loop μ-loop
 loop-holds c = search needs
 
-replay-next-requires : tie.Need-replay-next-requires Inv-loop μ-loop
-replay-next-requires c κs = search needs
+body-requires : tie.Need-body-requires Inv-loop μ-loop
+body-requires c κs = search needs
 
-returns : tie.Need-returns Inv-loop μ-loop
-returns c = search needs
+agrees-requires : tie.Need-agrees-requires Inv-loop μ-loop
+agrees-requires c κs = search needs
+
+counted-requires : tie.Need-counted-requires Inv-loop μ-loop
+counted-requires c κs = search needs
+
+next-requires : tie.Need-next-requires Inv-loop μ-loop
+next-requires c κs = search needs
 
 add-i : tie.Need-add-i Inv-loop μ-loop
 add-i c = search needs
@@ -42,6 +36,15 @@ loop-less c = search needs
 loop-again : tie.Need-loop-again Inv-loop μ-loop
 loop-again c = search needs
 
+ends-requires : tie.Need-ends-requires Inv-loop μ-loop
+ends-requires c κs = search needs
+
+counted-requires-2 : tie.Need-counted-requires-2 Inv-loop μ-loop
+counted-requires-2 c κs = search needs
+
+returns : tie.Need-returns Inv-loop μ-loop
+returns c = search needs
+
 returns-2 : tie.Need-returns-2 Inv-loop μ-loop
 returns-2 c = search needs
 
@@ -51,12 +54,16 @@ replay-all-spec =
     (tie.spec
     Inv-loop
     μ-loop
-    new-requires
     cases-requires
     loop-holds
-    replay-next-requires
-    returns
+    body-requires
+    agrees-requires
+    counted-requires
+    next-requires
     add-i
     loop-less
     loop-again
+    ends-requires
+    counted-requires-2
+    returns
     returns-2)

@@ -2,11 +2,6 @@ use borrow.Author.Needs.{needs}
 use borrow.Author.Tests.{not-false}
 use Rattle.answers.proofs.checked.assign.Statement.{statement}
 use Rattle.answers.proofs.checked.assign.Tie as tie
-use Rattle.answers.proofs.checked.assign.Reads as reads
-use Rattle.answers.proofs.checked.assign.Lts as lts
-use Rattle.answers.proofs.fits.framed.Reads as framed-reads
-use Rattle.answers.proofs.fits.long.Reads as long-reads
-use Rattle.kmeans.proofs.search_data.Reads as search-data-reads
 
 framed-requires : tie.Need-framed-requires
 framed-requires c κs = search needs

@@ -2,12 +2,6 @@ use borrow.Author.Needs.{needs}
 use borrow.Author.Tests.{not-false}
 use Rattle.answers.proofs.checked.train.Statement.{statement}
 use Rattle.answers.proofs.checked.train.Tie as tie
-use Rattle.answers.proofs.checked.train.Reads as reads
-use Rattle.answers.proofs.checked.train.Lts as lts
-use Rattle.answers.proofs.fits.drawn.Reads as drawn-reads
-use Rattle.answers.proofs.fits.framed.Reads as framed-reads
-use Rattle.answers.proofs.fits.long.Reads as long-reads
-use Rattle.kmeans.proofs.train.Reads as train-reads
 
 framed-requires : tie.Need-framed-requires
 framed-requires c κs = search needs

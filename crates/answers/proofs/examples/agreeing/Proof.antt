@@ -1,36 +1,25 @@
 use borrow.Author.Needs.{needs}
-use Prim.Native.Nat.{ℕ, suc, _+_, _*_, _-_, _≤_, _<_}
-use mathlib.Core.Path.{_≡_, refl, sym, _∙_, ap}
-use native.Mathlib.Omega.{arith}
-use native.Mathlib.Numerals.{add-one}
-use lib.ListN.{length, getD, drop, take}
+use Prim.Native.Nat.{_-_, _≤_}
 use Rattle.answers.proofs.examples.agreeing.Statement.{statement}
 use Rattle.answers.proofs.examples.agreeing.Tie as tie
-use Rattle.answers.proofs.examples.agreeing.Reads as reads
-use Rattle.answers.proofs.examples.agreeing.Lts as lts
-use Rattle.answers.proofs.examples.agrees.Reads as agrees-reads
-use Rattle.answers.proofs.tally.more.Reads as more-reads
 
 abbrev Inv-loop : tie.InvT-loop
-Inv-loop agree₀ i₀ agree i = i ≤ 5
+Inv-loop t₀ i₀ t i = i ≤ 5
 
 abbrev μ-loop : tie.MeasureT-loop
-μ-loop agree₀ i₀ agree i = 5 - i
+μ-loop t₀ i₀ t i = 5 - i
 
 loop-holds : tie.Need-loop-holds Inv-loop μ-loop
 loop-holds c = search needs
 
-mul-agrees : tie.Need-mul-agrees Inv-loop μ-loop
-mul-agrees c = search needs
-
-array-copy-out-agrees : tie.Need-array-copy-out-agrees Inv-loop μ-loop
-array-copy-out-agrees c = search needs
+example-at-requires : tie.Need-example-at-requires Inv-loop μ-loop
+example-at-requires c κs = search needs
 
 agrees-requires : tie.Need-agrees-requires Inv-loop μ-loop
 agrees-requires c κs = search needs
 
-more-requires : tie.Need-more-requires Inv-loop μ-loop
-more-requires c κs = search needs
+counted-requires : tie.Need-counted-requires Inv-loop μ-loop
+counted-requires c κs = search needs
 
 add-i : tie.Need-add-i Inv-loop μ-loop
 add-i c = search needs
@@ -51,10 +40,9 @@ agreeing-spec =
     Inv-loop
     μ-loop
     loop-holds
-    mul-agrees
-    array-copy-out-agrees
+    example-at-requires
     agrees-requires
-    more-requires
+    counted-requires
     add-i
     loop-less
     loop-again

@@ -1,0 +1,53 @@
+// Replays the recorded plain indexes of the Rust, and document 01's examples of the plain index, through our training and search, and
+// prints how many agree. data/plain.bin is what the oracle's command `record` writes, from the Rust's own answers; oracle/README.md has
+// its layout.
+mod buffers;
+mod kind_plain;
+mod lent;
+mod searches;
+mod spread;
+mod trainings;
+
+use recorded::layout;
+use recorded::tally;
+use recorded::tally::Tally;
+
+// The kind of the file's cases.
+const PLAIN: u32 = 2;
+
+// All cases of a file. What stands after the last one counts as one more that does not agree.
+fn replay_all(file: &[u8]) -> Tally {
+    let mut t = Tally { agree: 0, of: 0 };
+    let mut at = layout::FIRST;
+    for i in 0..layout::cases(file) {
+        let body = layout::body(file, at, PLAIN);
+        t = tally::counted(t, kind_plain::agrees(body));
+        at = layout::next(file, at);
+    }
+    if layout::ends(file, at) {
+        t
+    } else {
+        tally::counted(t, false)
+    }
+}
+
+// All cases of an open file.
+fn replay_file(fd: i32) -> Tally {
+    let mut file = buffers::file();
+    let n = io::read_full(fd, &mut file);
+    replay_all(recorded::parts::bytes(&file, n))
+}
+
+// The examples, then the file.
+fn main() {
+    let t = Tally { agree: 0, of: 0 };
+    tally::say_tally(b"examples ", searches::agreeing(trainings::agreeing(t)));
+    let path = b"plain.bin";
+    let fd = os::open_read(path);
+    if fd < 0 {
+        os::fail(path);
+        return;
+    }
+    tally::say_tally(b"plain ", replay_file(fd));
+    libc::close(fd);
+}

@@ -1,0 +1,60 @@
+use borrow.Author.Needs.{needs}
+use Rattle.recorded.specs.Layout.{floatAt}
+use Rattle.lists.proofs.Tables.{tab-none, tab-step, tab-done}
+use Rattle.lists.specs.Lists.{tab}
+use lib.Ieee.{nan}
+use mathlib.Core.List.{_++_}
+use Prim.Native.Nat.{_-_, _≤_}
+use mathlib.Core.Path.{_≡_}
+use lib.ListN.{length, drop}
+use Rattle.recorded.proofs.layout.floats.Statement.{statement}
+use Rattle.recorded.proofs.layout.floats.Tie as tie
+
+abbrev Inv-loop : tie.InvT-loop
+Inv-loop s at out₀ j₀ j-end out j = (j ≤ length out₀) × (length out ≡ length out₀) × (out ≡ tab (floatAt s at) j ++ drop j out₀)
+
+abbrev μ-loop : tie.MeasureT-loop
+μ-loop s at out₀ j₀ j-end out j = length out₀ - j
+
+loop-holds : tie.Need-loop-holds Inv-loop μ-loop
+loop-holds c = (search needs, search needs, tab-none _ _)
+
+float-at-requires : tie.Need-float-at-requires Inv-loop μ-loop
+float-at-requires c κs = search needs
+
+mul-out : tie.Need-mul-out Inv-loop μ-loop
+mul-out c = search needs
+
+slice-write-out : tie.Need-slice-write-out Inv-loop μ-loop
+slice-write-out c = search needs
+
+add-j : tie.Need-add-j Inv-loop μ-loop
+add-j c = search needs
+
+loop-less : tie.Need-loop-less Inv-loop μ-loop
+loop-less c = search needs
+
+loop-again : tie.Need-loop-again Inv-loop μ-loop
+loop-again c = (search needs, search needs, tab-step _ _ _ _ _ nan (search needs) (c .before .before .loop .inv .2) (c .float-at .ensures))
+
+same-length : tie.Need-same-length Inv-loop μ-loop
+same-length c = search needs
+
+returns : tie.Need-returns Inv-loop μ-loop
+returns c = tab-done _ _ _ _ _ (c .before .loop .inv .2) (search needs) (search needs) (search needs)
+
+pub floats-spec : {M : Type 1} → statement M
+floats-spec =
+    tie.close
+    (tie.spec
+    Inv-loop
+    μ-loop
+    loop-holds
+    float-at-requires
+    mul-out
+    slice-write-out
+    add-j
+    loop-less
+    loop-again
+    same-length
+    returns)

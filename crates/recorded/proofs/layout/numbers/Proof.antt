@@ -1,0 +1,59 @@
+use borrow.Author.Needs.{needs}
+use Rattle.recorded.specs.Layout.{numberAt}
+use Rattle.lists.proofs.Tables.{tab-none, tab-step, tab-done}
+use Rattle.lists.specs.Lists.{tab}
+use mathlib.Core.List.{_++_}
+use Prim.Native.Nat.{_-_, _≤_}
+use mathlib.Core.Path.{_≡_}
+use lib.ListN.{length, drop}
+use Rattle.recorded.proofs.layout.numbers.Statement.{statement}
+use Rattle.recorded.proofs.layout.numbers.Tie as tie
+
+abbrev Inv-loop : tie.InvT-loop
+Inv-loop s at out₀ j₀ j-end out j = (j ≤ length out₀) × (length out ≡ length out₀) × (out ≡ tab (numberAt s at) j ++ drop j out₀)
+
+abbrev μ-loop : tie.MeasureT-loop
+μ-loop s at out₀ j₀ j-end out j = length out₀ - j
+
+loop-holds : tie.Need-loop-holds Inv-loop μ-loop
+loop-holds c = (search needs, search needs, tab-none _ _)
+
+number-at-requires : tie.Need-number-at-requires Inv-loop μ-loop
+number-at-requires c κs = search needs
+
+mul-out : tie.Need-mul-out Inv-loop μ-loop
+mul-out c = search needs
+
+slice-write-out : tie.Need-slice-write-out Inv-loop μ-loop
+slice-write-out c = search needs
+
+add-j : tie.Need-add-j Inv-loop μ-loop
+add-j c = search needs
+
+loop-less : tie.Need-loop-less Inv-loop μ-loop
+loop-less c = search needs
+
+loop-again : tie.Need-loop-again Inv-loop μ-loop
+loop-again c = (search needs, search needs, tab-step _ _ _ _ _ 0 (search needs) (c .before .before .loop .inv .2) (c .number-at .ensures))
+
+same-length : tie.Need-same-length Inv-loop μ-loop
+same-length c = search needs
+
+returns : tie.Need-returns Inv-loop μ-loop
+returns c = tab-done _ _ _ _ _ (c .before .loop .inv .2) (search needs) (search needs) (search needs)
+
+pub numbers-spec : {M : Type 1} → statement M
+numbers-spec =
+    tie.close
+    (tie.spec
+    Inv-loop
+    μ-loop
+    loop-holds
+    number-at-requires
+    mul-out
+    slice-write-out
+    add-j
+    loop-less
+    loop-again
+    same-length
+    returns)

@@ -1,0 +1,19 @@
+use borrow.Author.Needs.{needs}
+use lib.ListN.{length-take}
+use lib.Seq.{take-all}
+use native.Mathlib.Omega.{arith}
+use mathlib.Core.Path.{sym}
+use Rattle.recorded.proofs.parts.numbers.Statement.{statement}
+use Rattle.recorded.proofs.parts.numbers.Tie as tie
+
+returns : tie.Need-returns
+returns c = sym (take-all (c .before .args .n) (c .before .args .s .now) (omega arith))
+
+slice-aggregate-result : tie.Need-slice-aggregate-result
+slice-aggregate-result c = rw length-take (omega arith)
+
+returns-2 : tie.Need-returns-2
+returns-2 c = search needs
+
+pub numbers-spec : {M : Type 1} → statement M
+numbers-spec = tie.close (tie.spec returns slice-aggregate-result returns-2)
