@@ -1,2 +1,4 @@
 pub mod CheckLaws
 pub mod CheckOutcome
+pub mod CellLists
+pub mod FillingLaws

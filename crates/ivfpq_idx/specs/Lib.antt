@@ -1,5 +1,6 @@
 pub mod Lists
 pub mod Training
+pub mod Filling
 pub mod Check
 pub mod Search
 pub mod Outcomes
