@@ -12,11 +12,20 @@ abbrev μ-loop : tie.MeasureT-loop
 loop-holds : tie.Need-loop-holds Inv-loop μ-loop
 loop-holds c = search needs
 
-numbers-requires : tie.Need-numbers-requires Inv-loop μ-loop
-numbers-requires c κs = search needs
+given-requires : tie.Need-given-requires Inv-loop μ-loop
+given-requires c κs = search needs
+
+coded-requires : tie.Need-coded-requires Inv-loop μ-loop
+coded-requires c κs = search needs
+
+expected-requires : tie.Need-expected-requires Inv-loop μ-loop
+expected-requires c κs = search needs
 
 values-requires : tie.Need-values-requires Inv-loop μ-loop
 values-requires c κs = search needs
+
+sums-requires : tie.Need-sums-requires Inv-loop μ-loop
+sums-requires c κs = search needs
 
 agrees-requires : tie.Need-agrees-requires Inv-loop μ-loop
 agrees-requires c κs = search needs
@@ -43,8 +52,11 @@ agreeing-spec =
     Inv-loop
     μ-loop
     loop-holds
-    numbers-requires
+    given-requires
+    coded-requires
+    expected-requires
     values-requires
+    sums-requires
     agrees-requires
     counted-requires
     add-i

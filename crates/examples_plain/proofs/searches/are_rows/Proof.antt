@@ -5,10 +5,10 @@ use Rattle.examples_plain.proofs.searches.are_rows.Statement.{statement
 use Rattle.examples_plain.proofs.searches.are_rows.Tie as tie
 
 abbrev Inv-loop : tie.InvT-loop
-Inv-loop s e j₀ j-end j = j ≤ length s
+Inv-loop s x j₀ j-end j = j ≤ length s
 
 abbrev μ-loop : tie.MeasureT-loop
-μ-loop s e j₀ j-end j = length s - j
+μ-loop s x j₀ j-end j = length s - j
 
 loop-holds : tie.Need-loop-holds Inv-loop μ-loop
 loop-holds c = search needs

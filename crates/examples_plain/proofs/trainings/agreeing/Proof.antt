@@ -12,8 +12,11 @@ abbrev μ-loop : tie.MeasureT-loop
 loop-holds : tie.Need-loop-holds Inv-loop μ-loop
 loop-holds c = search needs
 
-numbers-requires : tie.Need-numbers-requires Inv-loop μ-loop
-numbers-requires c κs = search needs
+given-requires : tie.Need-given-requires Inv-loop μ-loop
+given-requires c κs = search needs
+
+expected-requires : tie.Need-expected-requires Inv-loop μ-loop
+expected-requires c κs = search needs
 
 values-requires : tie.Need-values-requires Inv-loop μ-loop
 values-requires c κs = search needs
@@ -46,7 +49,8 @@ agreeing-spec =
     Inv-loop
     μ-loop
     loop-holds
-    numbers-requires
+    given-requires
+    expected-requires
     values-requires
     first-draw-requires
     agrees-requires

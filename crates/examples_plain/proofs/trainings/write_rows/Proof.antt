@@ -6,10 +6,10 @@ use Rattle.examples_plain.proofs.trainings.write_rows.Statement.{statem
 use Rattle.examples_plain.proofs.trainings.write_rows.Tie as tie
 
 abbrev Inv-loop : tie.InvT-loop
-Inv-loop e v out₀ j₀ j-end out j = (j ≤ length out₀) × (length out ≡ length out₀)
+Inv-loop g v out₀ j₀ j-end out j = (j ≤ length out₀) × (length out ≡ length out₀)
 
 abbrev μ-loop : tie.MeasureT-loop
-μ-loop e v out₀ j₀ j-end out j = length out₀ - j
+μ-loop g v out₀ j₀ j-end out j = length out₀ - j
 
 loop-holds : tie.Need-loop-holds Inv-loop μ-loop
 loop-holds c = search needs
