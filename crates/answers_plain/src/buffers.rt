@@ -1,5 +1,5 @@
-// Buffers for the largest file, the largest case and the largest example. Each promises its length, so that lending it asks for no
-// proof. What a training or a search writes is dirty at first: it holds a value that no answer has.
+// Buffers for the largest file and the largest case. Each promises its length, so that lending it asks for no proof. What a training
+// or a search writes is dirty at first.
 ghost use mathlib.Core.Path.{_≡_};
 ghost use lib.ListN.{length};
 
@@ -19,18 +19,11 @@ pub fn file() -> [u8; 2_097_152]
     [0; 2_097_152]
 }
 
-// For the coordinates of a case's rows.
+// For the coordinates of all rows.
 pub fn rows() -> [f32; 16_384]
     ensures { λ r. ⌜ 16_384 ≡ length r ⌝ }
 {
     [0.0; 16_384]
-}
-
-// For the coordinates of an example's rows.
-pub fn many_rows() -> [f32; 100_002]
-    ensures { λ r. ⌜ 100_002 ≡ length r ⌝ }
-{
-    [0.0; 100_002]
 }
 
 // For the draws.
@@ -48,38 +41,10 @@ pub fn subs() -> [f32; 65_536]
 }
 
 // For the codes.
-pub fn codes() -> [u8; 100_002]
-    ensures { λ r. ⌜ 100_002 ≡ length r ⌝ }
+pub fn codes() -> [u8; 32_768]
+    ensures { λ r. ⌜ 32_768 ≡ length r ⌝ }
 {
-    [DIRTY_BYTE; 100_002]
-}
-
-// For work.
-pub fn work() -> [u32; 101_026]
-    ensures { λ r. ⌜ 101_026 ≡ length r ⌝ }
-{
-    [DIRTY_NUMBER; 101_026]
-}
-
-// A mask in which every row is visible.
-pub fn mask() -> [u8; 100_002]
-    ensures { λ r. ⌜ 100_002 ≡ length r ⌝ }
-{
-    [128; 100_002]
-}
-
-// For the row numbers of the results.
-pub fn found_rows() -> [u32; 4_097]
-    ensures { λ r. ⌜ 4_097 ≡ length r ⌝ }
-{
-    [DIRTY_NUMBER; 4_097]
-}
-
-// For the sums of the results.
-pub fn found_sums() -> [f32; 4_097]
-    ensures { λ r. ⌜ 4_097 ≡ length r ⌝ }
-{
-    [DIRTY_FLOAT; 4_097]
+    [DIRTY_BYTE; 32_768]
 }
 
 // For the table.

@@ -1,4 +1,5 @@
 // A recorded plain index: its training and its searches, replayed by our code.
+use crate::buffers;
 use pq_idx::Searched;
 use pq_train::Trained;
 use recorded::compare;
@@ -120,18 +121,28 @@ fn is_found(
     compare::floats_are(table, 0.0)
 }
 
+// What a search is asked for.
+fn asked_search(h: Numbers) -> [usize; 4] {
+    [h.d, h.n_sub, h.sub_bits, h.n]
+}
+
+// What a training is asked for.
+fn asked_training(h: Numbers) -> [usize; 5] {
+    [h.d, h.n_sub, h.sub_bits, h.epochs, h.n]
+}
+
 // Whether the search that is recorded at a place has the recorded answer. All rows are visible.
 fn finds(body: &[u8], at: usize, h: Numbers, subs: &[f32], codes: &[u8]) -> bool {
     let k = count(body, at);
     let size = product(h.n_sub, h.centers);
     let mut query = [0.0f32; 256];
     layout::floats(body, after(at, 1), &mut query);
-    let mask = crate::buffers::mask();
-    let mut rows = crate::buffers::found_rows();
-    let mut sums = crate::buffers::found_sums();
-    let mut table = crate::buffers::table();
+    let mask = [128u8; 512];
+    let mut rows = [buffers::DIRTY_NUMBER; 600];
+    let mut sums = [buffers::DIRTY_FLOAT; 600];
+    let mut table = buffers::table();
     let a = crate::lent::search(
-        [h.d, h.n_sub, h.sub_bits, h.n],
+        asked_search(h),
         [k, k, size],
         parts::floats(&query, h.d),
         parts::bytes(&mask, h.n),
@@ -174,11 +185,11 @@ fn replays(body: &[u8], h: Numbers, p: Offsets, rows: &[f32], draws: &[f64]) -> 
     let y = product(h.centers, h.covered);
     let z = product(h.n, h.n_sub);
     let v = after(h.n, 1_024);
-    let mut subs = crate::buffers::subs();
-    let mut codes = crate::buffers::codes();
-    let mut work = crate::buffers::work();
+    let mut subs = buffers::subs();
+    let mut codes = buffers::codes();
+    let mut work = [buffers::DIRTY_NUMBER; 1_536];
     let t = crate::lent::train(
-        [h.d, h.n_sub, h.sub_bits, h.epochs, h.n],
+        asked_training(h),
         [y, z, v],
         rows,
         draws,
@@ -198,8 +209,8 @@ fn replays(body: &[u8], h: Numbers, p: Offsets, rows: &[f32], draws: &[f64]) -> 
 pub fn agrees(body: &[u8]) -> bool {
     let h = numbers_of(body);
     let p = offsets_of(h);
-    let mut rows = crate::buffers::rows();
-    let mut draws = crate::buffers::draws();
+    let mut rows = buffers::rows();
+    let mut draws = buffers::draws();
     layout::floats(body, ROWS, &mut rows);
     layout::draws(body, p.draws, &mut draws);
     replays(

@@ -1,12 +1,8 @@
-// Replays the recorded plain indexes of the Rust, and document 01's examples of the plain index, through our training and search, and
-// prints how many agree. data/plain.bin is what the oracle's command `record` writes, from the Rust's own answers; oracle/README.md has
-// its layout.
+// Replays the recorded plain indexes of the Rust through our training and search, and prints how many agree. data/plain.bin is what the
+// oracle's command `record` writes, from the Rust's own answers; oracle/README.md has its layout.
 mod buffers;
 mod kind_plain;
 mod lent;
-mod searches;
-mod spread;
-mod trainings;
 
 use recorded::layout;
 use recorded::tally;
@@ -38,10 +34,8 @@ fn replay_file(fd: i32) -> Tally {
     replay_all(recorded::parts::bytes(&file, n))
 }
 
-// The examples, then the file.
+// The file.
 fn main() {
-    let t = Tally { agree: 0, of: 0 };
-    tally::say_tally(b"examples ", searches::agreeing(trainings::agreeing(t)));
     let path = b"plain.bin";
     let fd = os::open_read(path);
     if fd < 0 {

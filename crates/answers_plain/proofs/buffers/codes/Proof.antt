@@ -5,7 +5,7 @@ use Rattle.answers_plain.proofs.buffers.codes.Statement.{statement}
 use Rattle.answers_plain.proofs.buffers.codes.Tie as tie
 
 returns : tie.Need-returns
-returns c = sym (length-replicate {A = ℕ} 100_002 165)
+returns c = sym (length-replicate {A = ℕ} 32_768 165)
 
 pub codes-spec : {M : Type 1} → statement M
 codes-spec = tie.close (tie.spec returns)
