@@ -9,4 +9,5 @@ pub mod Put
 pub mod Held
 pub mod Filling
 pub mod Merging
+pub mod Offering
 pub mod Examples
