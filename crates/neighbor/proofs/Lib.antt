@@ -1,9 +1,13 @@
 pub mod Insertion
 pub mod Sorted
+pub mod Batches
 pub mod Order
 pub mod Rearranged
 pub mod Ordered
 pub mod Push
 pub mod Put
 pub mod Held
+pub mod Filling
+pub mod Merging
+pub mod Offering
 pub mod Examples

@@ -1,3 +1,4 @@
 pub mod Neighbor
 pub mod Rearranged
 pub mod Held
+pub mod Gathered

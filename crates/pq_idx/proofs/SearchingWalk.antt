@@ -1,24 +1,24 @@
 -- Laws on the walk of the rows: what each row adds to the candidates, and what the walk leaves at its end.
-use Prim.Native.Nat.{ℕ, zero, suc, _+_, _*_, _≤_, _<_, min}
+use Prim.Native.Nat.{ℕ, suc, _+_, _≤_, _<_}
 use mathlib.Core.Path.{_≡_, refl, sym, _∙_, ap}
-use mathlib.Core.Bool.{Bool, true, false, cond, true≢false}
+use mathlib.Core.Bool.{Bool, true, false, true≢false}
 use mathlib.Core.List.{List, [], _∷_, _++_, map, map-append}
-use native.Mathlib.Numerals.{add-one}
 use native.Mathlib.Omega.{arith}
-use lib.ListN.{length, getD, length-append, length-map}
+use lib.ListN.{length, length-append, length-map}
 use lib.Ieee.{Float}
 use lib.Ieee.Scale.{finite}
 use Rattle.lists.specs.Lists.{tab}
-use Rattle.lists.specs.Tests.{every, keep}
+use Rattle.lists.specs.Tests.{keep}
 use Rattle.lists.proofs.Joins.{within}
 use Rattle.lists.proofs.Tests.{every-true, every-of, every-false}
-use Rattle.neighbor.specs.declared.Candidate.{Candidate}
-use Rattle.pq_idx.specs.declared.Searched.{Searched}
+use Rattle.neighbor.specs.Gathered.{Runs, runs}
+use Rattle.pq_idx.specs.declared.search.Step.{Step}
+use Rattle.pq_idx.specs.declared.search.Step.the-variants.{Went, NotFinite}
 use Rattle.pq_idx.specs.declared.Searched.the-variants.{Done, Refused}
 use Rattle.pq_idx.specs.Tables.{visible, ofAll}
-use Rattle.pq_idx.specs.SearchInner.{finiteAt, unless, upTo, shownOf, rowSound, candidateBy, candidatesBy, Scoring, Visited, afterRow, Kept, Walking, Walked}
+use Rattle.pq_idx.specs.SearchInner.{finiteAt, unless, upTo, shownOf, rowSound, candidateBy, candidatesBy, Scoring, Visited, Walking, Walked}
 use Rattle.pq_idx.proofs.SearchingRows.{up-yes, up-no, few-kept, unless-kept}
-use Rattle.pq_idx.proofs.SearchingResults.{kept-none, kept-insert}
+use Rattle.pq_idx.proofs.SearchingResults.{Gathers, Kept, gathers-more}
 
 -- what the sum of row m is worked from
 pub scoring : (mask codes : List ℕ) (table : List Float) (nsub centers m : ℕ) (rows : List ℕ) (sums : List Float) → Walking mask codes table nsub centers rows sums → m < length mask
@@ -48,54 +48,58 @@ module _ (f : ℕ → Float) (mask : List ℕ) where
   -- ---- one row
 
   -- the walk after row m
-  pub record Stepped (m k : ℕ) (rows : List ℕ) (sums : List Float) (found scored : ℕ) : Type 0 where
-    pub kept : Kept k (candidatesBy f mask (upTo (suc m))) rows sums found
+  pub record Stepped (m k : ℕ) (s : Runs) (scored : ℕ) : Type 0 where
+    pub kept : Gathers k (candidatesBy f mask (upTo (suc m))) s
     pub counted : scored ≡ length (candidatesBy f mask (upTo (suc m)))
     pub passed : unless (visible mask) (finiteAt f) m ≡ true
 
-  module _ (m k : ℕ) (rows : List ℕ) (sums : List Float) (found scored : ℕ) (rows' : List ℕ) (sums' : List Float) (r : Searched)
-      (W : Visited mask (candidateBy f m) rows sums found scored rows' sums' r) where
+  module _ (m k : ℕ) (s : Runs) (scored : ℕ) (rows' : List ℕ) (sums' : List Float) (batchRows' : List ℕ) (batchSums' : List Float) (r : Step)
+      (W : Visited mask (candidateBy f m) s scored rows' sums' batchRows' batchSums' r) where
     -- it goes on
-    pub stepped : (found' scored' : ℕ) → Kept k (candidatesBy f mask (upTo m)) rows sums found → scored ≡ length (candidatesBy f mask (upTo m)) → r ≡ Done found' scored'
-        → Stepped m k rows' sums' found' scored'
-    stepped found' scored' K n e = go (visible mask m) refl (finite (f m)) refl
+    pub stepped : (found' waiting' scored' : ℕ) → Gathers k (candidatesBy f mask (upTo m)) s → scored ≡ length (candidatesBy f mask (upTo m)) → r ≡ Went found' waiting' scored'
+        → Stepped m k (runs rows' sums' found' batchRows' batchSums' waiting') scored'
+    stepped found' waiting' scored' K n e = go (visible mask m) refl (finite (f m)) refl
       where
-        go : (b : Bool) → visible mask m ≡ b → (d : Bool) → finite (f m) ≡ d → Stepped m k rows' sums' found' scored'
+        go : (b : Bool) → visible mask m ≡ b → (d : Bool) → finite (f m) ≡ d → Stepped m k (runs rows' sums' found' batchRows' batchSums' waiting') scored'
         go true v true d =
-            let a : r ≡ Done (min (found + 1) (length rows)) (scored + 1) = rw (v, d) at (W .answer) in
-            let p : found' ≡ min (found + 1) (length rows) = cc in
+            let o = W .shown v d in
+            let a : r ≡ Went (o .0 .found) (o .0 .waiting) (scored + 1) = o .1 in
+            let p : found' ≡ o .0 .found = cc in
+            let w : waiting' ≡ o .0 .waiting = cc in
             let q : scored' ≡ scored + 1 = cc in
             let cs = candidatesBy f mask (upTo m) in record {
-              kept = rw (candidates-yes m v, p) (kept-insert k cs (candidateBy f m) rows sums found rows' sums' (min (found + 1) (length rows)) K (W .shown v d));
+              kept = rw (candidates-yes m v, p, w) (gathers-more k cs (candidateBy f m) s _ K (o .2));
               counted = rw (candidates-yes m v, q, n) (sym (length-append cs (candidateBy f m ∷ [])));
               passed = rw v d;
             }
         go true v false d =
-            let a : r ≡ Refused 11 = rw (v, d) at (W .answer) in
+            let a : r ≡ NotFinite = W .broken v d in
             let z : _≡_ {A = ℕ} 0 1 = cc in
             absurd (omega arith)
         go false v c d =
-            let a : r ≡ Done found scored = rw v at (W .answer) in
-            let p : found' ≡ found = cc in
-            let q : scored' ≡ scored = cc in
-            let h = W .hidden v in record {
-              kept = rw (candidates-no m v, p, h .0, h .1) K;
+            let h = W .hidden v in
+            let a : r ≡ Went (s .found) (s .waiting) scored = h .0 in
+            let p : found' ≡ s .found = cc in
+            let w : waiting' ≡ s .waiting = cc in
+            let q : scored' ≡ scored = cc in record {
+              kept = rw (candidates-no m v, p, w, h .1) K;
               counted = rw (candidates-no m v, q) n;
               passed = rw v;
             }
 
-    -- it refuses
-    pub stopped : (number : ℕ) → r ≡ Refused number → unless (visible mask) (finiteAt f) m ≡ false
-    stopped number e = go (visible mask m) refl (finite (f m)) refl
+    -- it ends the walk
+    pub stopped : r ≡ NotFinite → unless (visible mask) (finiteAt f) m ≡ false
+    stopped e = go (visible mask m) refl (finite (f m)) refl
       where
         go : (b : Bool) → visible mask m ≡ b → (d : Bool) → finite (f m) ≡ d → unless (visible mask) (finiteAt f) m ≡ false
         go true v true d =
-            let a : r ≡ Done (min (found + 1) (length rows)) (scored + 1) = rw (v, d) at (W .answer) in
+            let o = W .shown v d in
+            let a : r ≡ Went (o .0 .found) (o .0 .waiting) (scored + 1) = o .1 in
             let z : _≡_ {A = ℕ} 0 1 = cc in
             absurd (omega arith)
         go true v false d = rw v d
         go false v c d =
-            let a : r ≡ Done found scored = rw v at (W .answer) in
+            let a : r ≡ Went (s .found) (s .waiting) scored = W .hidden v .0 in
             let z : _≡_ {A = ℕ} 0 1 = cc in
             absurd (omega arith)
 

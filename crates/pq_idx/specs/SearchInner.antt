@@ -1,5 +1,5 @@
 -- What the steps of a search promise to one another: in terms of the slices and numbers that each is given.
-use Prim.Native.Nat.{ℕ, _+_, _*_, _≤_, _<_, min}
+use Prim.Native.Nat.{ℕ, _+_, _*_, _≤_, _<_}
 use mathlib.Core.Path.{_≡_}
 use mathlib.Core.List.{List, [], _∷_, map}
 use mathlib.Core.Bool.{Bool, true, false, cond, not}
@@ -12,11 +12,14 @@ use Rattle.lists.specs.Tests.{anyOf, every, keep}
 use Rattle.metrics.specs.Distance.{sumTo, squared, valueIn}
 use Rattle.neighbor.specs.declared.Candidate.{Candidate}
 use Rattle.neighbor.specs.Neighbor.{firstOf, resultRows, resultSums}
-use Rattle.neighbor.specs.Held.{Held, Inserted}
+use Rattle.neighbor.specs.declared.Counts.{Counts}
+use Rattle.neighbor.specs.Gathered.{Runs, runs, Offered}
 use Rattle.pq_params.specs.Bounds.{badRange, badPlain, tooManyRows, tooMuchAsked, centersOf}
 use Rattle.pq_params.specs.Ranges.{beginOf, widthOf, coveredOf}
 use Rattle.kmeans.specs.Kmeans.{coordinate}
 use Rattle.pq_idx.specs.declared.search.Lengths.{Lengths}
+use Rattle.pq_idx.specs.declared.search.Step.{Step}
+use Rattle.pq_idx.specs.declared.search.Step.the-variants.{Went, NotFinite}
 use Rattle.pq_idx.specs.declared.Searched.{Searched}
 use Rattle.pq_idx.specs.declared.Searched.the-variants.{Done, Refused}
 use Rattle.pq_idx.specs.Refusals.{anyNotFinite}
@@ -141,22 +144,13 @@ pub record Scoring (mask codes : List ℕ) (table : List Float) (nsub centers m 
   pub table-long : length table ≡ nsub * centers
   pub sound : rowSound mask codes nsub centers m ≡ true
 
--- the answer after one more row: a hidden one changes nothing, a sum that is not finite refuses, and any other is inserted and counted
-abbrev pub afterRow : Bool → Bool → ℕ → ℕ → ℕ → Searched
-afterRow shown isFinite k found scored =
-    cond shown (cond isFinite (Done (min (found + 1) k) (scored + 1)) (Refused 11)) (Done found scored)
-
-pub record Visited (mask : List ℕ) (c : Candidate) (rows : List ℕ) (sums : List Float) (found scored : ℕ) (rows' : List ℕ) (sums' : List Float) (r : Searched) : Type 0 where
-  pub answer : r ≡ afterRow (visible mask (c .row)) (finite (c .sum)) (length rows) found scored
-  pub hidden : visible mask (c .row) ≡ false → (rows' ≡ rows) × (sums' ≡ sums)
-  pub shown : visible mask (c .row) ≡ true → finite (c .sum) ≡ true → Inserted rows sums found c rows' sums' (min (found + 1) (length rows))
-
--- the first k of the candidates cs stand in the results, the other places are blank
-pub record Kept (k : ℕ) (cs : List Candidate) (rows : List ℕ) (sums : List Float) (found : ℕ) : Type 0 where
-  pub rows-are : rows ≡ resultRows k (firstOf k cs)
-  pub sums-are : sums ≡ resultSums k (firstOf k cs)
-  pub found-is : found ≡ length (firstOf k cs)
-  pub held : Held rows sums found
+-- one more row: a hidden one changes nothing, a sum that is not finite ends the walk, and any other is offered to the results and counted
+pub record Visited (mask : List ℕ) (c : Candidate) (s : Runs) (scored : ℕ) (rows' : List ℕ) (sums' : List Float) (batchRows' : List ℕ) (batchSums' : List Float) (r : Step) : Type 0 where
+  pub hidden : visible mask (c .row) ≡ false
+      → (r ≡ Went (s .found) (s .waiting) scored) × (runs rows' sums' (s .found) batchRows' batchSums' (s .waiting) ≡ s)
+  pub broken : visible mask (c .row) ≡ true → finite (c .sum) ≡ false → r ≡ NotFinite
+  pub shown : visible mask (c .row) ≡ true → finite (c .sum) ≡ true
+      → (n : Counts) × (r ≡ Went (n .found) (n .waiting) (scored + 1)) × Offered s c (runs rows' sums' (n .found) batchRows' batchSums' (n .waiting))
 
 -- what all rows are walked with: their visible codes are sound, and the results are blank
 pub record Walking (mask codes : List ℕ) (table : List Float) (nsub centers : ℕ) (rows : List ℕ) (sums : List Float) : Type 0 where

@@ -7,7 +7,7 @@ ghost use lib.Dec.{eqb};
 ghost use lib.ListN.{length};
 ghost use Rattle.lists.specs.Tests.{anyOf, every};
 ghost use Rattle.metrics.specs.Distance.{valueIn};
-ghost use Rattle.neighbor.specs.Held.{Held};
+ghost use Rattle.neighbor.specs.Gathered.{runs, Gathered};
 ghost use Rattle.pq_params.specs.Bounds.{badPlain, tooManyRows};
 ghost use Rattle.pq_idx.specs.Outcomes.{searchWorked, searchOutcome};
 ghost use Rattle.pq_idx.specs.Results.{SearchOut};
@@ -17,6 +17,16 @@ use crate::Searched;
 use crate::refusals;
 use metrics::Worked;
 use neighbor::Candidate;
+
+// How the walk goes on after a row: what the results hold, what waits in the batch, and how many rows were scored. Or the row's sum is not finite.
+pub enum Step {
+    Went {
+        found: usize,
+        waiting: usize,
+        scored: usize,
+    },
+    NotFinite,
+}
 
 // The lengths of the lent buffers.
 pub struct Lengths {
@@ -227,7 +237,7 @@ fn row_sum(codes: &[u8], n_sub: usize, centers: usize, table: &[f32], m: usize) 
     sum
 }
 
-// One row of a cell: a hidden one is passed over, a sum that is not finite refuses with 11, and any other goes to its place in the results and is counted.
+// One row of a cell: a hidden one is passed over, a sum that is not finite refuses with 11, and any other is offered to the results and counted.
 fn visit_row(
     mask: &[u8],
     codes: &[u8],
@@ -238,29 +248,37 @@ fn visit_row(
     rows: &mut [u32],
     sums: &mut [f32],
     found: usize,
+    batch_rows: &mut [u32],
+    batch_sums: &mut [f32],
+    waiting: usize,
     scored: usize,
-) -> Searched
+) -> Step
     requires { ⌜ Scoring (now mask) (now codes) (now table) «n_sub» centers m ⌝ }
-    requires { ⌜ Held (now rows) (now sums) found × (scored < 100_001) ⌝ }
-    ensures { λ r. ⌜ Visited (now (mask .entry)) (candidateBy (tableSum (now (table .entry)) (now (codes .entry)) «n_sub» centers) m) (now (rows .entry)) (now (sums .entry)) found scored (now (rows .exit)) (now (sums .exit)) r ⌝ }
+    requires { ⌜ Gathered (runs (now rows) (now sums) found (now «batch_rows») (now «batch_sums») waiting) × (scored < 100_001) ⌝ }
+    ensures { λ r. ⌜ Visited (now (mask .entry)) (candidateBy (tableSum (now (table .entry)) (now (codes .entry)) «n_sub» centers) m) (runs (now (rows .entry)) (now (sums .entry)) found (now («batch_rows» .entry)) (now («batch_sums» .entry)) waiting) scored (now (rows .exit)) (now (sums .exit)) (now («batch_rows» .exit)) (now («batch_sums» .exit)) r ⌝ }
 {
     if !is_visible(mask, m) {
-        return Searched::Done { found, scored };
+        return Step::Went {
+            found,
+            waiting,
+            scored,
+        };
     }
     let worked = metrics::mark(row_sum(codes, n_sub, centers, table, m));
     let Worked::Finite(sum) = worked else {
-        return Searched::Refused(11);
+        return Step::NotFinite;
     };
     let c = Candidate { sum, row: m as u32 };
-    let kept = neighbor::insert(rows, sums, found, c);
-    Searched::Done {
-        found: kept,
+    let kept = neighbor::offer(rows, sums, found, batch_rows, batch_sums, waiting, c);
+    Step::Went {
+        found: kept.found,
+        waiting: kept.waiting,
         scored: scored + 1,
     }
 }
 
-// All rows in their order, into blank results.
-fn walk_rows(
+// All rows in their order, into blank results, by way of a batch.
+fn walk_by_batch(
     mask: &[u8],
     codes: &[u8],
     n_sub: usize,
@@ -268,11 +286,15 @@ fn walk_rows(
     table: &[f32],
     rows: &mut [u32],
     sums: &mut [f32],
+    batch_rows: &mut [u32],
+    batch_sums: &mut [f32],
 ) -> Searched
     requires { ⌜ Walking (now mask) (now codes) (now table) «n_sub» centers (now rows) (now sums) ⌝ }
+    requires { ⌜ (length (now «batch_sums») ≡ length (now «batch_rows»)) × (0 < length (now «batch_rows»)) ⌝ }
     ensures { λ r. ⌜ Walked (tableSum (now (table .entry)) (now (codes .entry)) «n_sub» centers) (now (mask .entry)) (upTo (length (now (mask .entry)))) (length (now (rows .entry))) (now (rows .exit)) (now (sums .exit)) r ⌝ }
 {
     let mut found: usize = 0;
+    let mut waiting: usize = 0;
     let mut scored: usize = 0;
     for m in 0..mask.len() {
         let step = visit_row(
@@ -285,19 +307,53 @@ fn walk_rows(
             rows,
             sums,
             found,
+            batch_rows,
+            batch_sums,
+            waiting,
             scored,
         );
-        let Searched::Done {
+        let Step::Went {
             found: kept,
+            waiting: left,
             scored: counted,
         } = step
         else {
             return Searched::Refused(11);
         };
         found = kept;
+        waiting = left;
         scored = counted;
     }
-    Searched::Done { found, scored }
+    let all = neighbor::merge(rows, sums, found, batch_rows, batch_sums, waiting);
+    Searched::Done { found: all, scored }
+}
+
+// All rows in their order, into blank results. 256 candidates wait at most.
+fn walk_rows(
+    mask: &[u8],
+    codes: &[u8],
+    n_sub: usize,
+    centers: usize,
+    table: &[f32],
+    rows: &mut [u32],
+    sums: &mut [f32],
+) -> Searched
+    requires { ⌜ Walking (now mask) (now codes) (now table) «n_sub» centers (now rows) (now sums) ⌝ }
+    ensures { λ r. ⌜ Walked (tableSum (now (table .entry)) (now (codes .entry)) «n_sub» centers) (now (mask .entry)) (upTo (length (now (mask .entry)))) (length (now (rows .entry))) (now (rows .exit)) (now (sums .exit)) r ⌝ }
+{
+    let mut batch_rows: [u32; 256] = [0; 256];
+    let mut batch_sums: [f32; 256] = [0.0; 256];
+    walk_by_batch(
+        mask,
+        codes,
+        n_sub,
+        centers,
+        table,
+        rows,
+        sums,
+        &mut batch_rows,
+        &mut batch_sums,
+    )
 }
 
 // Every place of the results becomes blank.
