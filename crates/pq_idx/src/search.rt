@@ -237,7 +237,7 @@ fn row_sum(codes: &[u8], n_sub: usize, centers: usize, table: &[f32], m: usize) 
     sum
 }
 
-// One row of a cell: a hidden one is passed over, a sum that is not finite refuses with 11, and any other is offered to the results and counted.
+// One row of a cell: a hidden one is passed over, a sum that is not finite ends the walk, and any other is offered to the results and counted.
 fn visit_row(
     mask: &[u8],
     codes: &[u8],
@@ -277,7 +277,7 @@ fn visit_row(
     }
 }
 
-// All rows in their order, into blank results, by way of a batch.
+// All rows in their order, into blank results, by way of a batch; 11 at the first sum that is not finite.
 fn walk_by_batch(
     mask: &[u8],
     codes: &[u8],
