@@ -5,3 +5,6 @@ pub mod Check
 pub mod Search
 pub mod Outcomes
 pub mod CheckInner
+pub mod TrainInner
+pub mod TrainRefusal
+pub mod CodeInner

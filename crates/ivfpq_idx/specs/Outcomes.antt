@@ -18,7 +18,7 @@ use Rattle.pq_idx.specs.Results.{Lent, SearchOut, askedOf, lentLengths, unchang
 use Rattle.ivfpq_idx.specs.declared.Checked.{Checked}
 use Rattle.ivfpq_idx.specs.declared.Checked.the-variants.{Accepted, Refused as CheckRefused}
 use Rattle.ivfpq_idx.specs.Lists.{startsSound}
-use Rattle.ivfpq_idx.specs.Training.{TrainIn, reachedCell, coarseCenters, listOf, startAt, cellCenters, celledCode}
+use Rattle.ivfpq_idx.specs.Training.{Given, reachedCell, coarseCenters, listOf, startAt, cellCenters, celledCode}
 use Rattle.ivfpq_idx.specs.Check.{Index, indexSound}
 use Rattle.ivfpq_idx.specs.Search.{Asked, coarseFinite, probedSound, probedFinite, allCandidates}
 
@@ -27,6 +27,35 @@ abbrev pub subsLength : ℕ → ℕ → ℕ → ℕ → ℕ
 subsLength d nsub bits cells = cells * (centersOf bits * coveredOf d nsub)
 
 -- ---- training
+
+pub record TrainIn : Type 0 where
+  pub d : ℕ
+  pub nsub : ℕ
+  pub bits : ℕ
+  pub cells : ℕ
+  pub probes : ℕ
+  pub epochs : ℕ
+  pub n : ℕ
+  pub rows : List Float
+  pub draws : List Float
+  pub coarse : List Float
+  pub starts : List ℕ
+  pub members : List ℕ
+  pub subs : List Float
+  pub codes : List ℕ
+  pub work : List ℕ
+
+abbrev pub givenOf : TrainIn → Given
+givenOf i = record {
+  d = i .d;
+  nsub = i .nsub;
+  bits = i .bits;
+  cells = i .cells;
+  epochs = i .epochs;
+  n = i .n;
+  rows = i .rows;
+  draws = i .draws;
+}
 
 pub record TrainOut : Type 0 where
   pub answer : Trained
@@ -86,17 +115,17 @@ trainZero i answer = record {
 abbrev pub trainDone : TrainIn → ℕ → TrainOut
 trainDone i used = record {
   answer = Done used;
-  coarse = coarseCenters i;
-  starts = tab (startAt i) (suc (i .cells));
-  members = join (listOf i) (i .cells);
-  subs = join (cellCenters i) (i .cells);
-  codes = grid (celledCode i) (i .n) (i .nsub);
+  coarse = coarseCenters (givenOf i);
+  starts = tab (startAt (givenOf i)) (suc (i .cells));
+  members = join (listOf (givenOf i)) (i .cells);
+  subs = join (cellCenters (givenOf i)) (i .cells);
+  codes = grid (celledCode (givenOf i)) (i .n) (i .nsub);
   work = fill 0 (length (i .work));
 }
 
 unfoldable pub trainOutcome : TrainIn → TrainOut
 trainOutcome i =
-    let trained = ended (reachedCell i (i .cells)) (trainDone i) (trainZero i) in
+    let trained = ended (reachedCell (givenOf i) (i .cells)) (trainDone i) (trainZero i) in
     cond (eqb (trainRefusal i) 0) trained (trainUnchanged i (trainRefusal i))
 
 -- ---- the whole check

@@ -9,8 +9,7 @@ use Rattle.pq_params.specs.declared.PlainLengths.{PlainLengths}
 use Rattle.pq_params.specs.Lengths.{lengthsOf}
 use Rattle.bergrosk.specs.declared.RangeAnswer.{RangeAnswer}
 use Rattle.bergrosk.specs.Face.{TrainFace, trainFaced, SearchFace, searchFaced, rangeAnswerOf}
-use Rattle.ivfpq_idx.specs.Training.{TrainIn}
-use Rattle.ivfpq_idx.specs.Outcomes.{TrainOut, trainOutcome, CheckIn, CheckOut, checkOutcome, SearchIn, searchOutcome}
+use Rattle.ivfpq_idx.specs.Outcomes.{TrainIn, TrainOut, trainOutcome, CheckIn, CheckOut, checkOutcome, SearchIn, searchOutcome}
 
 pub determined {ℓ κ} : {I : Type ℓ} {O : Type κ} (f : I → O) (i : I) (x y : O) → x ≡ f i → y ≡ f i → x ≡ y
 determined f i x y p q = p ∙ sym q
