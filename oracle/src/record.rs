@@ -60,8 +60,8 @@ pub fn file(kind: Kind, folder: Option<&Path>) -> PathBuf {
     let root = Path::new(env!("CARGO_MANIFEST_DIR"));
     match (folder, kind) {
         (Some(folder), _) => folder.join(name),
-        (None, Kind::Kmeans) => root.join("../crates/answers/data").join(name),
-        (None, Kind::Plain) => root.join("../crates/answers_plain/data").join(name),
+        (None, Kind::Kmeans) => root.join("../crates/replay_kmeans/data").join(name),
+        (None, Kind::Plain) => root.join("../crates/replay_plain/data").join(name),
         (None, Kind::Celled) => root.join("recorded").join(name),
     }
 }
