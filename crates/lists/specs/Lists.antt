@@ -1,7 +1,8 @@
 -- Flat lent buffers: a part of a list, and lists given by their elements.
 use Prim.Native.Nat.{ℕ, zero, suc}
 use mathlib.Core.List.{List, [], _∷_, _++_}
-use lib.ListN.{take, drop, length}
+use mathlib.Core.Bool.{Bool, cond}
+use lib.ListN.{take, drop, length, getD}
 use mathlib.Core.Path.{_≡_}
 
 -- the w elements of s from place a on
@@ -37,3 +38,7 @@ grid g n w = join (strip g w) n
 pub record Part {ℓ} {A : Type ℓ} (s : List A) (a w : ℕ) (r : List A) : Type ℓ where
   pub is : r ≡ part s a w
   pub long : length r ≡ w
+
+-- the row number of the k-th row: from the list, or k itself
+abbrev pub memberOf : Bool → List ℕ → ℕ → ℕ
+memberOf listed members k = cond listed (getD members k 0) k

@@ -1,8 +1,9 @@
 // Flat lent buffers: a part of one, and fills. Vectors of vectors are flat here, and a row, a centre or a code is a part at an offset.
 ghost use mathlib.Core.Path.{_≡_};
-ghost use Prim.Native.Nat.{_+_, _*_, _≤_};
+ghost use mathlib.Core.Bool.{true};
+ghost use Prim.Native.Nat.{_+_, _*_, _≤_, _<_};
 ghost use lib.ListN.{length};
-ghost use Rattle.lists.specs.Lists.{Part, fill};
+ghost use Rattle.lists.specs.Lists.{Part, fill, memberOf};
 
 // The w elements from place a on.
 pub fn part(s: &[f32], a: usize, w: usize) -> &[f32]
@@ -26,6 +27,21 @@ pub fn wide(x: u32) -> usize
     ensures { λ r. ⌜ r ≡ x ⌝ }
 {
     x as usize
+}
+
+// A code as an index.
+pub fn wide_byte(x: u8) -> usize
+    ensures { λ r. ⌜ r ≡ x ⌝ }
+{
+    x as usize
+}
+
+// The row number of the k-th row: from the list, or k itself.
+pub fn row_number(listed: bool, members: &[u32], k: usize) -> usize
+    requires { ⌜ (listed ≡ true → k < length (now members)) ⌝ }
+    ensures { λ r. ⌜ r ≡ memberOf listed (now (members .entry)) k ⌝ }
+{
+    if listed { wide(members[k]) } else { k }
 }
 
 // Every coordinate becomes v.

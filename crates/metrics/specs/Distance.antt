@@ -1,9 +1,10 @@
 -- Distance: from +0.0, in coordinate order, each operation rounding once. No root.
-use Prim.Native.Nat.{ℕ, zero, suc}
+use Prim.Native.Nat.{ℕ, zero, suc, _+_, _*_}
 use mathlib.Core.List.{List}
 use mathlib.Core.Bool.{Bool, true, false}
 use lib.ListN.{getD}
 use lib.Ieee.{Float, nan, inf, fin, binary32, add, sub, mul, ofBits}
+use lib.Ieee.Scale.{finite}
 use Rattle.metrics.specs.declared.Worked.{Worked}
 use Rattle.metrics.specs.declared.Worked.the-variants.{Finite, NotFinite}
 
@@ -24,6 +25,14 @@ valueOf false x r = x
 -- the coordinates of a slice
 abbrev pub coordinateIn : List Float → ℕ → Float
 coordinateIn x j = getD x j nan
+
+-- coordinate j of centre i, where centres of width w stand one after the other
+abbrev pub coordinate : List Float → ℕ → ℕ → ℕ → Float
+coordinate cs w i j = getD cs (i * w + j) nan
+
+-- whether coordinate j of a slice is finite
+abbrev pub finiteIn : List Float → ℕ → Bool
+finiteIn s j = finite (getD s j nan)
 
 -- the values of a slice of coordinates, less the slice of the residual's if there is one
 abbrev pub valueIn : Bool → List Float → List Float → ℕ → Float

@@ -2,7 +2,8 @@
 ghost use mathlib.Core.Path.{_≡_};
 ghost use lib.ListN.{length};
 ghost use lib.Ieee.Scale.{finite};
-ghost use Rattle.metrics.specs.Distance.{valueOf, valueIn, coordinateIn, worked, distance};
+ghost use Rattle.lists.specs.Tests.{every};
+ghost use Rattle.metrics.specs.Distance.{valueOf, valueIn, coordinateIn, finiteIn, worked, distance};
 
 // A worked distance: a finite sum, or the mark that it is not finite.
 pub enum Worked {
@@ -15,6 +16,18 @@ pub fn is_finite(x: f32) -> bool
     ensures { λ r. ⌜ r ≡ finite x ⌝ }
 {
     x - x == 0.0
+}
+
+// Whether every coordinate of a slice is finite.
+pub fn all_finite(s: &[f32]) -> bool
+    ensures { λ r. ⌜ r ≡ every (finiteIn (now (s .entry))) (length (now (s .entry))) ⌝ }
+{
+    for j in 0..s.len() {
+        if !is_finite(s[j]) {
+            return false;
+        }
+    }
+    true
 }
 
 // A coordinate's value: x, or x less the residual.

@@ -3,3 +3,4 @@ pub mod RangeRule
 pub mod Numbers
 pub mod RangeList
 pub mod Examples
+pub mod Refusing

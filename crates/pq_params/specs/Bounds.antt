@@ -5,19 +5,20 @@ use mathlib.Core.List.{List, [], _∷_, _++_}
 use mathlib.Core.Bool.{Bool}
 use lib.Dec.{eqb, ltb}
 use Rattle.lists.specs.Tests.{anyOf}
+use Rattle.pq_params.specs.declared.Shape.{Shape}
+use Rattle.pq_params.specs.declared.CelledShape.{CelledShape}
 
 -- D and n_sub: what the range rule tests
 abbrev pub rangeTests : ℕ → ℕ → List Bool
 rangeTests d nsub = eqb d 0 ∷ ltb 256 d ∷ eqb nsub 0 ∷ ltb 64 nsub ∷ ltb d nsub ∷ []
 
--- the plain index's parameters: D, n_sub, sub_bits
-abbrev pub plainTests : ℕ → ℕ → ℕ → List Bool
-plainTests d nsub bits = rangeTests d nsub ++ (ltb 8 bits ∷ [])
+-- the plain index's numbers: D, n_sub, sub_bits
+abbrev pub plainTests : Shape → List Bool
+plainTests s = rangeTests (s .d) (s .nsub) ++ (ltb 8 (s .bits) ∷ [])
 
--- the celled index's: D, n_sub, sub_bits, cells, probes
-abbrev pub celledTests : ℕ → ℕ → ℕ → ℕ → ℕ → List Bool
-celledTests d nsub bits cells probes =
-    plainTests d nsub bits ++ (eqb cells 0 ∷ ltb 1024 cells ∷ eqb probes 0 ∷ ltb cells probes ∷ [])
+-- the celled index's: those, cells and probes
+abbrev pub celledTests : CelledShape → List Bool
+celledTests s = plainTests (s .plain) ++ (eqb (s .cells) 0 ∷ ltb 1024 (s .cells) ∷ eqb (s .probes) 0 ∷ ltb (s .cells) (s .probes) ∷ [])
 
 -- training's own
 abbrev pub epochTests : ℕ → List Bool
@@ -26,11 +27,11 @@ epochTests epochs = ltb 1000 epochs ∷ []
 abbrev pub badRange : ℕ → ℕ → Bool
 badRange d nsub = anyOf (rangeTests d nsub)
 
-abbrev pub badPlain : ℕ → ℕ → ℕ → Bool
-badPlain d nsub bits = anyOf (plainTests d nsub bits)
+abbrev pub badPlain : Shape → Bool
+badPlain s = anyOf (plainTests s)
 
-abbrev pub badCelled : ℕ → ℕ → ℕ → ℕ → ℕ → Bool
-badCelled d nsub bits cells probes = anyOf (celledTests d nsub bits cells probes)
+abbrev pub badCelled : CelledShape → Bool
+badCelled s = anyOf (celledTests s)
 
 abbrev pub badEpochs : ℕ → Bool
 badEpochs epochs = ltb 1000 epochs

@@ -3,3 +3,4 @@ pub mod Ranges
 pub mod Defaults
 pub mod RangesRight
 pub mod Lengths
+pub mod Refusals

@@ -3,6 +3,7 @@ use Prim.Native.Nat.{ℕ, zero, suc, _+_, _/_, _%_}
 use mathlib.Core.List.{List, [], _∷_}
 use mathlib.Core.Bool.{cond}
 use lib.Dec.{ltb}
+use lib.Ieee.{Float}
 use Rattle.lists.specs.Lists.{tab}
 use Rattle.pq_params.specs.Bounds.{badRange}
 
@@ -38,3 +39,7 @@ pairAt d nsub i = cond (ltb i (rangesUsed d nsub)) (beginOf d nsub i ∷ endOf d
 
 unfoldable pub rangesOf : ℕ → ℕ → List (List ℕ)
 rangesOf d nsub = tab (pairAt d nsub) 64
+
+-- the values x, at the D coordinates, on range s
+abbrev pub onRange : ℕ → ℕ → ℕ → (ℕ → Float) → ℕ → Float
+onRange d nsub s x j = x (beginOf d nsub s + j)

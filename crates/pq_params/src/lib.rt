@@ -1,13 +1,15 @@
-// Parameters with the Rust's defaults, their bounds, and the range rule.
+// The numbers of an index with the Rust's defaults, their bounds, the range rule, the lengths of the buffers, and the tests of rows and draws.
 ghost use mathlib.Core.Path.{_≡_};
 ghost use mathlib.Core.Bool.{false};
 ghost use Prim.Native.Nat.{_≤_, min};
-ghost use Rattle.pq_params.specs.Defaults.{plainOf, celledOf, plainDefault, celledDefault};
+ghost use Rattle.pq_params.specs.Defaults.{plainDefault, celledDefault};
 ghost use Rattle.pq_params.specs.Bounds.{badRange, badPlain, badCelled, badEpochs, tooManyRows, tooManyDraws, tooMuchAsked, centersOf};
 ghost use Rattle.pq_params.specs.Ranges.{widthOf, beginOf, coveredOf, rangesUsed, pairAt, rangesOf};
-ghost use Rattle.pq_params.specs.Lengths.{refusedLengths, lengthsOf};
+ghost use Rattle.pq_params.specs.Lengths.{subsLong, tableLong, refusedPlain, plainLengths, refusedCelled, celledLengths};
+ghost use Rattle.pq_params.specs.Refusals.{anyNotFinite, anyDrawOut};
 
 // The plain index's parameters.
+#[repr(C)]
 pub struct PQParams {
     pub n_sub: usize,
     pub sub_bits: usize,
@@ -25,33 +27,10 @@ impl PQParams {
             train_epoch: 100,
         }
     }
-
-    // The same with another number of sub-spaces.
-    pub fn n_sub(mut self, new_n_sub: usize) -> Self
-        ensures { λ r. ⌜ r ≡ plainOf «new_n_sub» (self .«sub_bits») (self .«train_epoch») ⌝ }
-    {
-        self.n_sub = new_n_sub;
-        self
-    }
-
-    // The same with another number of bits a code.
-    pub fn sub_bits(mut self, new_sub_bits: usize) -> Self
-        ensures { λ r. ⌜ r ≡ plainOf (self .«n_sub») «new_sub_bits» (self .«train_epoch») ⌝ }
-    {
-        self.sub_bits = new_sub_bits;
-        self
-    }
-
-    // The same with another number of epochs.
-    pub fn train_epoch(mut self, new_train_epoch: usize) -> Self
-        ensures { λ r. ⌜ r ≡ plainOf (self .«n_sub») (self .«sub_bits») «new_train_epoch» ⌝ }
-    {
-        self.train_epoch = new_train_epoch;
-        self
-    }
 }
 
 // The celled index's parameters: the plain ones, the number of cells and how many of them a search probes.
+#[repr(C)]
 pub struct IVFPQParams {
     pub n_sub: usize,
     pub sub_bits: usize,
@@ -73,67 +52,41 @@ impl IVFPQParams {
             train_epoch: 100,
         }
     }
+}
 
-    // The same with another number of sub-spaces.
-    pub fn n_sub(mut self, new_n_sub: usize) -> Self
-        ensures { λ r. ⌜ r ≡ celledOf «new_n_sub» (self .«sub_bits») (self .«n_kmeans_center») (self .«search_n_center») (self .«train_epoch») ⌝ }
-    {
-        self.n_sub = new_n_sub;
-        self
-    }
+// The numbers of a plain index: D coordinates, n_sub sub-spaces, sub_bits bits a code.
+pub struct Shape {
+    pub d: usize,
+    pub nsub: usize,
+    pub bits: usize,
+}
 
-    // The same with another number of bits a code.
-    pub fn sub_bits(mut self, new_sub_bits: usize) -> Self
-        ensures { λ r. ⌜ r ≡ celledOf (self .«n_sub») «new_sub_bits» (self .«n_kmeans_center») (self .«search_n_center») (self .«train_epoch») ⌝ }
-    {
-        self.sub_bits = new_sub_bits;
-        self
-    }
-
-    // The same with another number of cells.
-    pub fn n_kmeans_center(mut self, new_n_kmeans_center: usize) -> Self
-        ensures { λ r. ⌜ r ≡ celledOf (self .«n_sub») (self .«sub_bits») «new_n_kmeans_center» (self .«search_n_center») (self .«train_epoch») ⌝ }
-    {
-        self.n_kmeans_center = new_n_kmeans_center;
-        self
-    }
-
-    // The same with another number of probes.
-    pub fn search_n_center(mut self, new_search_n_center: usize) -> Self
-        ensures { λ r. ⌜ r ≡ celledOf (self .«n_sub») (self .«sub_bits») (self .«n_kmeans_center») «new_search_n_center» (self .«train_epoch») ⌝ }
-    {
-        self.search_n_center = new_search_n_center;
-        self
-    }
-
-    // The same with another number of epochs.
-    pub fn train_epoch(mut self, new_train_epoch: usize) -> Self
-        ensures { λ r. ⌜ r ≡ celledOf (self .«n_sub») (self .«sub_bits») (self .«n_kmeans_center») (self .«search_n_center») «new_train_epoch» ⌝ }
-    {
-        self.train_epoch = new_train_epoch;
-        self
-    }
+// The numbers of a celled index: those of its sub-spaces, the cells, and how many of them a search probes.
+pub struct CelledShape {
+    pub plain: Shape,
+    pub cells: usize,
+    pub probes: usize,
 }
 
 // Whether D or n_sub is outside its bounds: the range rule's refusal 1.
-pub fn bad_range(d: usize, n_sub: usize) -> bool
-    ensures { λ r. ⌜ r ≡ badRange d «n_sub» ⌝ }
+pub fn bad_range(d: usize, nsub: usize) -> bool
+    ensures { λ r. ⌜ r ≡ badRange d nsub ⌝ }
 {
-    (d == 0) | (256 < d) | (n_sub == 0) | (64 < n_sub) | (d < n_sub)
+    (d == 0) | (256 < d) | (nsub == 0) | (64 < nsub) | (d < nsub)
 }
 
 // Whether D, n_sub or sub_bits is outside its bounds: the plain index's refusal 1.
-pub fn bad_plain(d: usize, n_sub: usize, sub_bits: usize) -> bool
-    ensures { λ r. ⌜ r ≡ badPlain d «n_sub» «sub_bits» ⌝ }
+pub fn bad_plain(s: Shape) -> bool
+    ensures { λ r. ⌜ r ≡ badPlain s ⌝ }
 {
-    bad_range(d, n_sub) | (8 < sub_bits)
+    bad_range(s.d, s.nsub) | (8 < s.bits)
 }
 
-// Whether one of the celled index's parameters is outside its bounds: its refusal 1.
-pub fn bad_celled(d: usize, n_sub: usize, sub_bits: usize, cells: usize, probes: usize) -> bool
-    ensures { λ r. ⌜ r ≡ badCelled d «n_sub» «sub_bits» cells probes ⌝ }
+// Whether one of the celled index's numbers is outside its bounds: its refusal 1.
+pub fn bad_celled(s: CelledShape) -> bool
+    ensures { λ r. ⌜ r ≡ badCelled s ⌝ }
 {
-    bad_plain(d, n_sub, sub_bits) | (cells == 0) | (1024 < cells) | (probes == 0) | (cells < probes)
+    bad_plain(s.plain) | (s.cells == 0) | (1024 < s.cells) | (s.probes == 0) | (s.cells < s.probes)
 }
 
 // Whether there are too many epochs: training's refusal 1.
@@ -165,11 +118,11 @@ pub fn too_much_asked(k: usize) -> bool
 }
 
 // K, the number of centres of a sub-space.
-pub fn centers(sub_bits: usize) -> usize
-    requires { ⌜ «sub_bits» ≤ 8 ⌝ }
-    ensures { λ r. ⌜ r ≡ centersOf «sub_bits» ⌝ }
+pub fn centers(bits: usize) -> usize
+    requires { ⌜ bits ≤ 8 ⌝ }
+    ensures { λ r. ⌜ r ≡ centersOf bits ⌝ }
 {
-    1 << sub_bits
+    1 << bits
 }
 
 // The lesser of two numbers.
@@ -180,11 +133,11 @@ fn least(a: usize, b: usize) -> usize
 }
 
 // How long range i is.
-pub fn range_width(d: usize, n_sub: usize, i: usize) -> usize
-    requires { ⌜ badRange d «n_sub» ≡ false ⌝ }
-    ensures { λ r. ⌜ r ≡ widthOf d «n_sub» i ⌝ }
+pub fn range_width(d: usize, nsub: usize, i: usize) -> usize
+    requires { ⌜ badRange d nsub ≡ false ⌝ }
+    ensures { λ r. ⌜ r ≡ widthOf d nsub i ⌝ }
 {
-    let sub_dimension = d / n_sub;
+    let sub_dimension = d / nsub;
     if i < d % sub_dimension {
         sub_dimension + 1
     } else {
@@ -193,53 +146,72 @@ pub fn range_width(d: usize, n_sub: usize, i: usize) -> usize
 }
 
 // Where range i begins; for i = n_sub, where the last one ends.
-pub fn range_begin(d: usize, n_sub: usize, i: usize) -> usize
-    requires { ⌜ (badRange d «n_sub» ≡ false) × (i ≤ «n_sub») ⌝ }
-    ensures { λ r. ⌜ r ≡ beginOf d «n_sub» i ⌝ }
+pub fn range_begin(d: usize, nsub: usize, i: usize) -> usize
+    requires { ⌜ (badRange d nsub ≡ false) × (i ≤ nsub) ⌝ }
+    ensures { λ r. ⌜ r ≡ beginOf d nsub i ⌝ }
 {
-    let sub_dimension = d / n_sub;
+    let sub_dimension = d / nsub;
     i * sub_dimension + least(i, d % sub_dimension)
 }
 
 // C, the coordinates covered.
-pub fn covered(d: usize, n_sub: usize) -> usize
-    requires { ⌜ badRange d «n_sub» ≡ false ⌝ }
-    ensures { λ r. ⌜ r ≡ coveredOf d «n_sub» ⌝ }
+pub fn covered(d: usize, nsub: usize) -> usize
+    requires { ⌜ badRange d nsub ≡ false ⌝ }
+    ensures { λ r. ⌜ r ≡ coveredOf d nsub ⌝ }
 {
-    range_begin(d, n_sub, n_sub)
+    range_begin(d, nsub, nsub)
 }
 
 // How many places of the fixed list hold a range: none in refusal 1.
-fn ranges_used(d: usize, n_sub: usize) -> usize
-    ensures { λ r. ⌜ r ≡ rangesUsed d «n_sub» ⌝ }
+fn ranges_used(d: usize, nsub: usize) -> usize
+    ensures { λ r. ⌜ r ≡ rangesUsed d nsub ⌝ }
 {
-    if bad_range(d, n_sub) { 0 } else { n_sub }
+    if bad_range(d, nsub) { 0 } else { nsub }
 }
 
 // Place i of the fixed list: range i's begin and end, or 0, 0.
-pub fn range_at(d: usize, n_sub: usize, i: usize) -> [usize; 2]
-    ensures { λ r. ⌜ r ≡ pairAt d «n_sub» i ⌝ }
+pub fn range_at(d: usize, nsub: usize, i: usize) -> [usize; 2]
+    ensures { λ r. ⌜ r ≡ pairAt d nsub i ⌝ }
 {
-    if i < ranges_used(d, n_sub) {
-        let begin = range_begin(d, n_sub, i);
-        let end = begin + range_width(d, n_sub, i);
+    if i < ranges_used(d, nsub) {
+        let begin = range_begin(d, nsub, i);
+        let end = begin + range_width(d, nsub, i);
         return [begin, end];
     }
     [0, 0]
 }
 
 // The list of ranges, for any D and n_sub.
-pub fn ranges(d: usize, n_sub: usize) -> [[usize; 2]; 64]
-    ensures { λ r. ⌜ r ≡ rangesOf d «n_sub» ⌝ }
+pub fn ranges(d: usize, nsub: usize) -> [[usize; 2]; 64]
+    ensures { λ r. ⌜ r ≡ rangesOf d nsub ⌝ }
 {
     let mut out = [[0usize; 2]; 64];
     for i in 0..64 {
-        out[i] = range_at(d, n_sub, i);
+        out[i] = range_at(d, nsub, i);
     }
     out
 }
 
-// The lengths of a plain index's buffers, in elements. The number is 0, or the refusal of D, n_sub, sub_bits and n; then all lengths are 0.
+// K·C: how long the sub-centres of one cell are.
+pub fn subs_long(s: Shape) -> usize
+    requires { ⌜ badPlain s ≡ false ⌝ }
+    ensures { λ r. ⌜ r ≡ subsLong s ⌝ }
+{
+    let k = centers(s.bits);
+    let c = covered(s.d, s.nsub);
+    k * c
+}
+
+// n_sub·K: how long a table is.
+pub fn table_long(s: Shape) -> usize
+    requires { ⌜ badPlain s ≡ false ⌝ }
+    ensures { λ r. ⌜ r ≡ tableLong s ⌝ }
+{
+    let k = centers(s.bits);
+    s.nsub * k
+}
+
+// The lengths of a plain index's buffers, in elements. The number is 0, or the refusal of the numbers and n; then all lengths are 0.
 #[repr(C)]
 pub struct PlainLengths {
     pub number: u32,
@@ -251,8 +223,8 @@ pub struct PlainLengths {
 }
 
 // The lengths of a refusal.
-fn refused_lengths(number: u32) -> PlainLengths
-    ensures { λ r. ⌜ r ≡ refusedLengths number ⌝ }
+fn refused_plain(number: u32) -> PlainLengths
+    ensures { λ r. ⌜ r ≡ refusedPlain number ⌝ }
 {
     PlainLengths {
         number,
@@ -265,22 +237,96 @@ fn refused_lengths(number: u32) -> PlainLengths
 }
 
 // How long each buffer of a plain index of n rows must be.
-pub fn plain_lengths(d: usize, n_sub: usize, sub_bits: usize, n: usize) -> PlainLengths
-    ensures { λ r. ⌜ r ≡ lengthsOf d «n_sub» «sub_bits» n ⌝ }
+pub fn plain_lengths(s: Shape, n: usize) -> PlainLengths
+    ensures { λ r. ⌜ r ≡ plainLengths s n ⌝ }
 {
-    if bad_plain(d, n_sub, sub_bits) {
-        return refused_lengths(1);
+    if bad_plain(s) {
+        return refused_plain(1);
     }
     if too_many_rows(n) {
-        return refused_lengths(3);
+        return refused_plain(3);
     }
-    let k = centers(sub_bits);
     PlainLengths {
         number: 0,
-        rows: n * d,
-        subs: k * covered(d, n_sub),
-        codes: n * n_sub,
+        rows: n * s.d,
+        subs: subs_long(s),
+        codes: n * s.nsub,
         work: n + 1024,
-        table: n_sub * k,
+        table: table_long(s),
     }
+}
+
+// The lengths of a celled index's buffers, in elements. The number is 0, or the refusal of the numbers and n; then all lengths are 0.
+#[repr(C)]
+pub struct CelledLengths {
+    pub number: u32,
+    pub rows: usize,
+    pub coarse: usize,
+    pub starts: usize,
+    pub members: usize,
+    pub subs: usize,
+    pub codes: usize,
+    pub work: usize,
+    pub table: usize,
+}
+
+// The lengths of a refusal.
+fn refused_celled(number: u32) -> CelledLengths
+    ensures { λ r. ⌜ r ≡ refusedCelled number ⌝ }
+{
+    CelledLengths {
+        number,
+        rows: 0,
+        coarse: 0,
+        starts: 0,
+        members: 0,
+        subs: 0,
+        codes: 0,
+        work: 0,
+        table: 0,
+    }
+}
+
+// How long each buffer of a celled index of n rows must be.
+pub fn celled_lengths(s: CelledShape, n: usize) -> CelledLengths
+    ensures { λ r. ⌜ r ≡ celledLengths s n ⌝ }
+{
+    if bad_celled(s) {
+        return refused_celled(1);
+    }
+    if too_many_rows(n) {
+        return refused_celled(3);
+    }
+    let p = s.plain;
+    CelledLengths {
+        number: 0,
+        rows: n * p.d,
+        coarse: s.cells * p.d,
+        starts: s.cells + 1,
+        members: n,
+        subs: s.cells * subs_long(p),
+        codes: n * p.nsub,
+        work: n + 1024,
+        table: table_long(p),
+    }
+}
+
+// Whether a coordinate of a row or of a query is not finite: refusal 6.
+pub fn any_not_finite(s: &[f32]) -> bool
+    ensures { λ r. ⌜ r ≡ anyNotFinite (now (s .entry)) ⌝ }
+{
+    !metrics::all_finite(s)
+}
+
+// Whether a draw is not in 0 ≤ d < 1: refusal 7. A NaN is neither.
+pub fn any_draw_out(draws: &[f64]) -> bool
+    ensures { λ r. ⌜ r ≡ anyDrawOut (now (draws .entry)) ⌝ }
+{
+    for i in 0..draws.len() {
+        let d = draws[i];
+        if !((0.0 <= d) & (d < 1.0)) {
+            return true;
+        }
+    }
+    false
 }

@@ -3,11 +3,8 @@ use borrow.Author.Needs.{needs}
 use Rattle.pq_params.proofs.bad_celled.Statement.{statement}
 use Rattle.pq_params.proofs.bad_celled.Tie as tie
 
-bad-plain-requires : tie.Need-bad-plain-requires
-bad-plain-requires c κs = search needs
-
 returns : tie.Need-returns
-returns c = rw (c .bad-plain .ensures)
+returns c = rw (c .before .before .before .before .bad-plain .ensures)
 
 pub bad-celled-spec : {M : Type 1} → statement M
-bad-celled-spec = tie.close (tie.spec bad-plain-requires returns)
+bad-celled-spec = tie.close (tie.spec (λ c κs. search needs) returns)

@@ -10,7 +10,7 @@ shl-result : tie.Need-shl-result
 shl-result c = search needs
 
 returns : tie.Need-returns
-returns c = rw one-mul (mod-eq-of-lt (omega (arith, centers-most (c .args .sub-bits) (c .pre))))
+returns c = rw one-mul (mod-eq-of-lt (omega (arith, centers-most (c .args .bits) (c .pre))))
 
 pub centers-spec : {M : Type 1} → statement M
 centers-spec = tie.close (tie.spec shl-result returns)

@@ -13,7 +13,7 @@ ranges-used-requires : tie.Need-ranges-used-requires
 ranges-used-requires c κs = search needs
 
 -- in the first arm place i is used
-used : (c : tie.Then1) → Used (c .before .before .args .d) (c .before .before .args .n-sub) (c .before .before .args .i)
+used : (c : tie.Then1) → Used (c .before .before .args .d) (c .before .before .args .nsub) (c .before .before .args .i)
 used c = used-of _ _ _ (rw (c .before .ranges-used .ensures) at (c .if1 .taken))
 
 range-begin-requires : tie.Need-range-begin-requires
@@ -26,9 +26,9 @@ add-end : tie.Need-add-end
 add-end c =
     let a = c .before .before .before .before .args in
     let u = used (c .before .before) in
-    let n = begin-next (a .d) (a .n-sub) (a .i) in
-    let w = begin-within (a .d) (a .n-sub) (u .good) (suc (a .i)) (u .below) in
-    omega (arith, range-bounds (a .d) (a .n-sub) (u .good) .d-most)
+    let n = begin-next (a .d) (a .nsub) (a .i) in
+    let w = begin-within (a .d) (a .nsub) (u .good) (suc (a .i)) (u .below) in
+    omega (arith, range-bounds (a .d) (a .nsub) (u .good) .d-most)
 
 returns : tie.Need-returns
 returns c =
@@ -37,7 +37,7 @@ returns c =
 returns-2 : tie.Need-returns-2
 returns-2 c =
     let a = c .before .before .args in
-    sym (pair-unused (a .d) (a .n-sub) (a .i) (rw (c .before .ranges-used .ensures) at (c .if1 .left)))
+    sym (pair-unused (a .d) (a .nsub) (a .i) (rw (c .before .ranges-used .ensures) at (c .if1 .left)))
 
 pub range-at-spec : {M : Type 1} → statement M
 range-at-spec =

@@ -8,15 +8,15 @@ use Rattle.pq_params.proofs.range_begin.Statement.{statement}
 use Rattle.pq_params.proofs.range_begin.Tie as tie
 
 div-sub-dimension : tie.Need-div-sub-dimension
-div-sub-dimension c = omega (arith, range-bounds (c .args .d) (c .args .n-sub) (c .pre .0) .nsub-some)
+div-sub-dimension c = omega (arith, range-bounds (c .args .d) (c .args .nsub) (c .pre .0) .nsub-some)
 
 mul-result : tie.Need-mul-result
 mul-result c =
     let a = c .args in
-    omega (arith, begin-at (a .d) (a .n-sub) (a .i), begin-within (a .d) (a .n-sub) (c .pre .0) (a .i) (c .pre .1))
+    omega (arith, begin-at (a .d) (a .nsub) (a .i), begin-within (a .d) (a .nsub) (c .pre .0) (a .i) (c .pre .1))
 
 rem-least : tie.Need-rem-least
-rem-least c = omega (arith, short-some (c .args .d) (c .args .n-sub) (c .pre .0))
+rem-least c = omega (arith, short-some (c .args .d) (c .args .nsub) (c .pre .0))
 
 least-requires : tie.Need-least-requires
 least-requires c κs = search needs
@@ -25,7 +25,7 @@ add-result : tie.Need-add-result
 add-result c =
     let a = c .before .args in
     let p = c .before .pre in
-    omega (arith, begin-at (a .d) (a .n-sub) (a .i), begin-within (a .d) (a .n-sub) (p .0) (a .i) (p .1))
+    omega (arith, begin-at (a .d) (a .nsub) (a .i), begin-within (a .d) (a .nsub) (p .0) (a .i) (p .1))
 
 returns : tie.Need-returns
 returns c = rw (c .least .ensures) (sym (begin-at _ _ _))

@@ -7,15 +7,15 @@ use Rattle.pq_params.proofs.range_width.Statement.{statement}
 use Rattle.pq_params.proofs.range_width.Tie as tie
 
 div-sub-dimension : tie.Need-div-sub-dimension
-div-sub-dimension c = omega (arith, range-bounds (c .args .d) (c .args .n-sub) (c .pre) .nsub-some)
+div-sub-dimension c = omega (arith, range-bounds (c .args .d) (c .args .nsub) (c .pre) .nsub-some)
 
 rem-if1 : tie.Need-rem-if1
-rem-if1 c = omega (arith, short-some (c .args .d) (c .args .n-sub) (c .pre))
+rem-if1 c = omega (arith, short-some (c .args .d) (c .args .nsub) (c .pre))
 
 add-result : tie.Need-add-result
 add-result c =
     let a = c .before .args in
-    omega (arith, width-long (a .d) (a .n-sub) (a .i) (c .if1 .taken), width-most (a .d) (a .n-sub) (c .before .pre) (a .i))
+    omega (arith, width-long (a .d) (a .nsub) (a .i) (c .if1 .taken), width-most (a .d) (a .nsub) (c .before .pre) (a .i))
 
 returns : tie.Need-returns
 returns c = sym (width-long _ _ _ (c .if1 .taken))

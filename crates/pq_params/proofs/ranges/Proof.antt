@@ -11,10 +11,10 @@ use Rattle.pq_params.proofs.ranges.Statement.{statement}
 use Rattle.pq_params.proofs.ranges.Tie as tie
 
 abbrev Inv-loop : tie.InvT-loop
-Inv-loop d n-sub out₀ i₀ out i = (i ≤ 64) × (length out ≡ 64) × (out ≡ tab (pairAt d n-sub) i ++ drop i out₀)
+Inv-loop d nsub out₀ i₀ out i = (i ≤ 64) × (length out ≡ 64) × (out ≡ tab (pairAt d nsub) i ++ drop i out₀)
 
 abbrev μ-loop : tie.MeasureT-loop
-μ-loop d n-sub out₀ i₀ out i = 64 - i
+μ-loop d nsub out₀ i₀ out i = 64 - i
 
 loop-holds : tie.Need-loop-holds Inv-loop μ-loop
 loop-holds c = (search needs, search needs, tab-none _ _)

@@ -1,13 +1,13 @@
 -- `any_not_finite` is the negation of `all_finite`.
 use borrow.Author.Needs.{needs}
-use Rattle.pq_idx.specs.Refusals.{anyNotFinite}
+use Rattle.pq_params.specs.Refusals.{anyNotFinite}
 use mathlib.Core.Bool.{not}
 use mathlib.Core.Path.{_≡_, ap}
-use Rattle.pq_idx.proofs.refusals.any_not_finite.Statement.{statement}
-use Rattle.pq_idx.proofs.refusals.any_not_finite.Tie as tie
-use Rattle.pq_idx.proofs.refusals.any_not_finite.Reads as reads
-use Rattle.pq_idx.proofs.refusals.any_not_finite.Lts as lts
-use Rattle.kmeans.proofs.all_finite.Reads as all-finite-reads
+use Rattle.pq_params.proofs.any_not_finite.Statement.{statement}
+use Rattle.pq_params.proofs.any_not_finite.Tie as tie
+use Rattle.pq_params.proofs.any_not_finite.Reads as reads
+use Rattle.pq_params.proofs.any_not_finite.Lts as lts
+use Rattle.metrics.proofs.all_finite.Reads as all-finite-reads
 
 all-finite-requires : tie.Need-all-finite-requires
 all-finite-requires c κs = search needs

@@ -7,7 +7,7 @@ use native.Mathlib.Omega.{arith}
 use borrow.Author.Tests.{eqb-true, not-false}
 use lib.ListN.{length}
 use lib.Dec.{eqb}
-use Rattle.pq_idx.specs.Refusals.{notLong}
+use Rattle.pq_params.specs.Refusals.{notLong}
 
 -- a number that is picked by a test and is 0: the test fails, and so on
 pub pick-l : (b : Bool) (x y : ℕ) → cond b (suc x) y ≡ 0 → b ≡ false

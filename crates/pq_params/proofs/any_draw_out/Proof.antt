@@ -1,6 +1,6 @@
 -- `any_draw_out`: every draw passed is in range.
 use borrow.Author.Needs.{needs}
-use Rattle.pq_idx.specs.Refusals.{inDrawRange, anyDrawOut}
+use Rattle.pq_params.specs.Refusals.{inDrawRange, anyDrawOut}
 use Rattle.lists.proofs.Tests.{every-of, every-false}
 use lib.Ieee.{nan}
 use borrow.Author.Tests.{not-true, not-false}
@@ -11,10 +11,10 @@ use mathlib.Core.Path.{_≡_, refl, sym, _∙_, ap}
 use native.Mathlib.Omega.{arith}
 use native.Mathlib.Numerals.{add-one}
 use lib.ListN.{length, getD, drop, take}
-use Rattle.pq_idx.proofs.refusals.any_draw_out.Statement.{statement}
-use Rattle.pq_idx.proofs.refusals.any_draw_out.Tie as tie
-use Rattle.pq_idx.proofs.refusals.any_draw_out.Reads as reads
-use Rattle.pq_idx.proofs.refusals.any_draw_out.Lts as lts
+use Rattle.pq_params.proofs.any_draw_out.Statement.{statement}
+use Rattle.pq_params.proofs.any_draw_out.Tie as tie
+use Rattle.pq_params.proofs.any_draw_out.Reads as reads
+use Rattle.pq_params.proofs.any_draw_out.Lts as lts
 
 abbrev Inv-loop : tie.InvT-loop
 Inv-loop draws i₀ i-end i = (i ≤ length draws) × ((k : ℕ) → k < i → inDrawRange (getD draws k nan) ≡ true)
