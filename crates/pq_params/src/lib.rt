@@ -6,7 +6,7 @@ ghost use Rattle.pq_params.specs.Defaults.{plainDefault, celledDefault};
 ghost use Rattle.pq_params.specs.Bounds.{badRange, badPlain, badCelled, badEpochs, tooManyRows, tooManyDraws, tooMuchAsked, centersOf};
 ghost use Rattle.pq_params.specs.Ranges.{widthOf, beginOf, coveredOf, rangesUsed, pairAt, rangesOf};
 ghost use Rattle.pq_params.specs.Lengths.{subsLong, tableLong, plainOf, refusedPlain, plainLengths, celledOf, refusedCelled, celledLengths};
-ghost use Rattle.pq_params.specs.Refusals.{anyNotFinite, anyDrawOut};
+ghost use Rattle.pq_params.specs.Refusals.{anyNotFinite, anyDrawOut, trainTests, searchTests, checkTests};
 
 // The plain index's parameters.
 #[repr(C)]
@@ -347,4 +347,67 @@ pub fn any_draw_out(draws: &[f64]) -> bool
         }
     }
     false
+}
+
+// The tests of a training, of which the caller made 1 and 4: the number of the first that refuses, or 0.
+pub fn train_refusal(bad: bool, n: usize, wrong: bool, rows: &[f32], draws: &[f64]) -> u32
+    ensures { λ r. ⌜ r ≡ trainTests bad n wrong (now (rows .entry)) (now (draws .entry)) ⌝ }
+{
+    if bad {
+        return 1;
+    }
+    if n == 0 {
+        return 2;
+    }
+    if too_many_rows(n) {
+        return 3;
+    }
+    if wrong {
+        return 4;
+    }
+    if any_not_finite(rows) {
+        return 6;
+    }
+    if any_draw_out(draws) {
+        return 7;
+    }
+    0
+}
+
+// The tests of a search for k places, of which the caller made 1 and 4: the number of the first that refuses, or 0.
+pub fn search_refusal(bad: bool, n: usize, wrong: bool, k: usize, query: &[f32]) -> u32
+    ensures { λ r. ⌜ r ≡ searchTests bad n wrong k (now (query .entry)) ⌝ }
+{
+    if bad {
+        return 1;
+    }
+    if too_many_rows(n) {
+        return 3;
+    }
+    if wrong {
+        return 4;
+    }
+    if too_much_asked(k) {
+        return 5;
+    }
+    if any_not_finite(query) {
+        return 6;
+    }
+    0
+}
+
+// The tests of the whole check, of which the caller made 1 and 4: the number of the first that refuses, or 0.
+pub fn check_refusal(bad: bool, n: usize, wrong: bool) -> u32
+    ensures { λ r. ⌜ r ≡ checkTests bad n wrong ⌝ }
+{
+    if bad {
+        return 1;
+    }
+    if too_many_rows(n) {
+        return 3;
+    }
+    if wrong {
+        return 4;
+    }
+    0
 }
