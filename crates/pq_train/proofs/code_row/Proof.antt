@@ -19,10 +19,10 @@ use Rattle.pq_train.proofs.code_row.Lts as lts
 use Rattle.pq_train.proofs.code_of.Reads as code-of-reads
 
 abbrev Inv-loop : tie.InvT-loop
-Inv-loop l x center subs codes₀ s₀ s-end codes s = (s ≤ l .nsub) × (length codes ≡ length codes₀) × (codes ≡ tab (codeBy l x center subs) s ++ drop s codes₀)
+Inv-loop l x center subs codes₀ s₀ s-end codes s = (s ≤ l .shape .nsub) × (length codes ≡ length codes₀) × (codes ≡ tab (codeBy l x center subs) s ++ drop s codes₀)
 
 abbrev μ-loop : tie.MeasureT-loop
-μ-loop l x center subs codes₀ s₀ s-end codes s = l .nsub - s
+μ-loop l x center subs codes₀ s₀ s-end codes s = l .shape .nsub - s
 
 loop-holds : tie.Need-loop-holds Inv-loop μ-loop
 loop-holds c = (search needs, search needs, tab-none _ _)

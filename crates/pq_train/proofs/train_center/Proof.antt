@@ -9,12 +9,12 @@ use Rattle.lists.proofs.Joins.{join-none, join-step, join-done}
 use Rattle.pq_params.specs.Bounds.{centersOf}
 use Rattle.pq_params.specs.Ranges.{beginOf, widthOf}
 use Rattle.pq_params.proofs.Bounds.{plain-bounds, range-bounds}
-use Rattle.kmeans.specs.Splits.{Drawn}
-use Rattle.kmeans.proofs.Laws.{told-not-done}
-use Rattle.kmeans.proofs.Splitting.{train-drawn, train-sized}
-use Rattle.pq_train.specs.declared.Stage.the-variants.{Sub}
-use Rattle.pq_train.specs.declared.Trained.the-variants.{Done}
-use Rattle.pq_train.specs.Answers.{staged, drawsUsed}
+use Rattle.kmeans_split.specs.SplitFacts.{Drawn}
+use Rattle.kmeans_split.proofs.Runs.{told-not-done}
+use Rattle.kmeans.proofs.Reached.{train-drawn, train-sized}
+use Rattle.answers.specs.declared.Stage.the-variants.{Sub}
+use Rattle.answers.specs.declared.Trained.the-variants.{Done}
+use Rattle.answers.specs.Answers.{staged, drawsUsed}
 use Rattle.pq_train.specs.Training.{reached, centersAt, taskOf, subCenters}
 use Rattle.pq_train.specs.Inner.{listedOf}
 use Rattle.pq_train.proofs.Laws.{reached-step, reached-refused, centers-begin, centers-reached, nothing-made}
@@ -32,15 +32,15 @@ use Rattle.pq_train.proofs.train_sub.Reads as train-sub-reads
 
 abbrev Inv-loop : tie.InvT-loop
 Inv-loop l rows members center draws start subs₀ assigned₀ used₀ s₀ s-end subs assigned used s =
-    (s ≤ l .nsub)
+    (s ≤ l .shape .nsub)
     × (length subs ≡ length subs₀)
     × (length assigned ≡ length assigned₀)
     × (used ≤ length draws)
     × (reached (listedOf l rows members center draws start) s ≡ Done used)
-    × (subs ≡ join (centersAt (listedOf l rows members center draws start)) s ++ drop (centersOf (l .bits) * beginOf (l .d) (l .nsub) s) subs₀)
+    × (subs ≡ join (centersAt (listedOf l rows members center draws start)) s ++ drop (centersOf (l .shape .bits) * beginOf (l .shape .d) (l .shape .nsub) s) subs₀)
 
 abbrev μ-loop : tie.MeasureT-loop
-μ-loop l rows members center draws start subs₀ assigned₀ used₀ s₀ s-end subs assigned used s = l .nsub - s
+μ-loop l rows members center draws start subs₀ assigned₀ used₀ s₀ s-end subs assigned used s = l .shape .nsub - s
 
 loop-holds : tie.Need-loop-holds Inv-loop μ-loop
 unfolding reached
@@ -48,7 +48,7 @@ loop-holds c =
     let p = c .before .before .before .before .before .before in
     let a = p .args in
     let l = listedOf (a .l) (a .rows .now) (a .members .now) (a .center .now) (a .draws .now) (a .start) in
-    (search needs, refl, refl, p .pre .1 .drawn, refl, join-none (centersAt l) (λ (s : ℕ). centersOf (a .l .bits) * beginOf (a .l .d) (a .l .nsub) s) (centers-begin l) (a .subs .now))
+    (search needs, refl, refl, p .pre .1 .drawn, refl, join-none (centersAt l) (λ (s : ℕ). centersOf (a .l .shape .bits) * beginOf (a .l .shape .d) (a .l .shape .nsub) s) (centers-begin l) (a .subs .now))
 
 train-sub-requires : tie.Need-train-sub-requires Inv-loop μ-loop
 train-sub-requires c κs =
@@ -64,7 +64,7 @@ staged-requires : tie.Need-staged-requires Inv-loop μ-loop
 staged-requires c κs =
     let p = c .before .before .before .before .before .before .before .before .before .before .before .before .before .before .before .before in
     let l = p .args .l in
-    omega (arith, c .before .before .before .before .before .before .before .before .loop-test .taken, range-bounds (l .d) (l .nsub) (plain-bounds (l .d) (l .nsub) (l .bits) (p .pre .0 .good) .range) .nsub-most)
+    omega (arith, c .before .before .before .before .before .before .before .before .loop-test .taken, range-bounds (l .shape .d) (l .shape .nsub) (plain-bounds (l .shape) (p .pre .0 .good) .range) .nsub-most)
 
 same-length : tie.Need-same-length Inv-loop μ-loop
 same-length c = search needs
@@ -81,7 +81,7 @@ returns c =
     let n = told-not-done (v .result) (c .before .match .keys2) in
     let e = c .staged .ensures in
     record {
-      said = e ∙ reached-refused l (i .s) (a .l .nsub) (i .used) (v .result) (i .inv .4) (v .ensures .said) n (c .before .before .before .before .before .before .before .before .before .loop-test .taken);
+      said = e ∙ reached-refused l (i .s) (a .l .shape .nsub) (i .used) (v .result) (i .inv .4) (v .ensures .said) n (c .before .before .before .before .before .before .before .before .before .loop-test .taken);
       made = nothing-made (Sub (a .l .cell) (i .s)) (v .result) (c .staged .result) e n;
     }
 
@@ -105,7 +105,7 @@ loop-again c =
       search needs,
       subst (Drawn (i .used) (length (a .draws .now))) (sym (k .said) ∙ g) (train-drawn (taskOf l (i .s)) (i .used) (i .inv .3)) .1,
       reached-step l (i .s) (i .used) (v .result) (i .inv .4) (k .said) ∙ ap (staged (Sub (a .l .cell) (i .s))) g,
-      k .placed ∙ join-step (centersAt l) (λ (s : ℕ). centersOf (a .l .bits) * beginOf (a .l .d) (a .l .nsub) s) (centers-begin l) (i .s) (centersOf (a .l .bits) * widthOf (a .l .d) (a .l .nsub) (i .s)) (a .subs .now) (i .subs) _ (i .inv .5) (centers-reached l (i .s) (i .used) (i .inv .4)) (train-sized (taskOf l (i .s)) (drawsUsed (reached l (i .s)))),
+      k .placed ∙ join-step (centersAt l) (λ (s : ℕ). centersOf (a .l .shape .bits) * beginOf (a .l .shape .d) (a .l .shape .nsub) s) (centers-begin l) (i .s) (centersOf (a .l .shape .bits) * widthOf (a .l .shape .d) (a .l .shape .nsub) (i .s)) (a .subs .now) (i .subs) _ (i .inv .5) (centers-reached l (i .s) (i .used) (i .inv .4)) (train-sized (taskOf l (i .s)) (drawsUsed (reached l (i .s)))),
     )
 
 same-length-3 : tie.Need-same-length-3 Inv-loop μ-loop
@@ -121,10 +121,10 @@ returns-2 c =
     let a = p .args in
     let i = c .before .loop in
     let l = listedOf (a .l) (a .rows .now) (a .members .now) (a .center .now) (a .draws .now) (a .start) in
-    let e : i .s ≡ a .l .nsub = omega arith in
+    let e : i .s ≡ a .l .shape .nsub = omega arith in
     record {
       said = sym (rw e at (i .inv .4));
-      made = λ u f. join-done (centersAt l) (λ (s : ℕ). centersOf (a .l .bits) * beginOf (a .l .d) (a .l .nsub) s) (centers-begin l) (i .s) (a .l .nsub) (a .subs .now) (i .subs) (i .inv .5) e (omega (arith, p .pre .1 .subs-long));
+      made = λ u f. join-done (centersAt l) (λ (s : ℕ). centersOf (a .l .shape .bits) * beginOf (a .l .shape .d) (a .l .shape .nsub) s) (centers-begin l) (i .s) (a .l .shape .nsub) (a .subs .now) (i .subs) (i .inv .5) e (omega (arith, p .pre .1 .subs-long));
     }
 
 pub train-center-spec : {M : Type 1} → statement M

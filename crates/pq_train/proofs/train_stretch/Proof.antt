@@ -4,7 +4,7 @@ use mathlib.Core.Path.{_≡_, sym, _∙_, ap}
 use lib.ListN.{length}
 use Rattle.lists.specs.Lists.{part}
 use Rattle.lists.proofs.Tables.{take-fresh, length-tab}
-use Rattle.kmeans.specs.Kmeans.{Run}
+use Rattle.kmeans_split.specs.Run.{Run}
 use Rattle.pq_train.proofs.train_stretch.Statement.{statement}
 use Rattle.pq_train.proofs.train_stretch.Tie as tie
 use Rattle.pq_train.proofs.train_stretch.Reads as reads

@@ -18,7 +18,7 @@ mul-at : tie.Need-mul-at
 mul-at c =
     let s = c .before .before .before .before .before .before .before .before in
     let l = s .args .l in
-    let g : centersOf (l .bits) * beginOf (l .d) (l .nsub) (s .args .s) < 18446744073709551616 = omega (arith, begin-fits (s .pre .0) (s .args .s) (s .pre .1 .1)) in
+    let g : centersOf (l .shape .bits) * beginOf (l .shape .d) (l .shape .nsub) (s .args .s) < 18446744073709551616 = omega (arith, begin-fits (s .pre .0) (s .args .s) (s .pre .1 .1)) in
     record { fits = rw (c .before .frame .ensures) g }
 
 train-at-requires : tie.Need-train-at-requires
@@ -28,7 +28,7 @@ train-at-requires c κs =
     rw (c .before .before .before .frame .ensures) (
       frame-held (s .pre .0) (a .s) (s .pre .1 .1),
       (
-        (omega (arith, stretch-within (a .l .d) (a .l .nsub) (centersOf (a .l .bits)) (a .s) (s .pre .1 .1), s .pre .1 .0 .subs-long), s .pre .1 .0 .assigned-long, s .pre .0 .few-epochs, s .pre .1 .0 .drawn),
+        (omega (arith, stretch-within (a .l .shape .d) (a .l .shape .nsub) (centersOf (a .l .shape .bits)) (a .s) (s .pre .1 .1), s .pre .1 .0 .subs-long), s .pre .1 .0 .assigned-long, s .pre .0 .few-epochs, s .pre .1 .0 .drawn),
         s .pre .0 .in-range,
       ),
     )

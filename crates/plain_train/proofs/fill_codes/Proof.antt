@@ -6,21 +6,21 @@ use native.Mathlib.Omega.{arith}
 use lib.ListN.{length, drop}
 use Rattle.lists.specs.Lists.{grid}
 use Rattle.lists.proofs.Joins.{within, grid-none, grid-step, grid-done}
-use Rattle.pq_idx.specs.TrainInner.{codeIn}
-use Rattle.pq_idx.proofs.TrainingLaws.{row-coding}
+use Rattle.plain_train.specs.TrainInner.{codeIn}
+use Rattle.plain_train.proofs.AllRows.{row-coding}
 use Prim.Native.Nat.{ℕ, suc, _+_, _*_, _-_, _≤_, _<_}
 use mathlib.Core.Path.{_≡_, refl, sym, _∙_, ap}
 use native.Mathlib.Omega.{arith}
 use native.Mathlib.Numerals.{add-one}
 use lib.ListN.{length, getD, drop, take}
-use Rattle.pq_idx.proofs.training.fill_codes.Statement.{statement}
-use Rattle.pq_idx.proofs.training.fill_codes.Tie as tie
-use Rattle.pq_idx.proofs.training.fill_codes.Reads as reads
-use Rattle.pq_idx.proofs.training.fill_codes.Lts as lts
+use Rattle.plain_train.proofs.fill_codes.Statement.{statement}
+use Rattle.plain_train.proofs.fill_codes.Tie as tie
+use Rattle.plain_train.proofs.fill_codes.Reads as reads
+use Rattle.plain_train.proofs.fill_codes.Lts as lts
 use Rattle.pq_train.proofs.fill_row.Reads as fill-row-reads
 
 abbrev Inv-loop : tie.InvT-loop
-Inv-loop l rows subs codes₀ m₀ m-end codes m = (m ≤ l .n) × (length codes ≡ length codes₀) × (codes ≡ grid (codeIn l rows subs) m (l .nsub) ++ drop (m * l .nsub) codes₀)
+Inv-loop l rows subs codes₀ m₀ m-end codes m = (m ≤ l .n) × (length codes ≡ length codes₀) × (codes ≡ grid (codeIn l rows subs) m (l .shape .nsub) ++ drop (m * l .shape .nsub) codes₀)
 
 abbrev μ-loop : tie.MeasureT-loop
 μ-loop l rows subs codes₀ m₀ m-end codes m = l .n - m
@@ -35,8 +35,8 @@ fill-row-requires c κs =
     let i = c .before .before .loop in
     let h = c .before .loop-test .taken in (
       row-coding (s .pre) (i .m) h,
-      omega (arith, within (i .m) (l .n) (l .d) h, s .pre .rows-long),
-      omega (arith, within (i .m) (l .n) (l .nsub) h, s .pre .codes-long, i .inv .1),
+      omega (arith, within (i .m) (l .n) (l .shape .d) h, s .pre .rows-long),
+      omega (arith, within (i .m) (l .n) (l .shape .nsub) h, s .pre .codes-long, i .inv .1),
     )
 
 add-m : tie.Need-add-m Inv-loop μ-loop
@@ -56,7 +56,7 @@ same-length c = search needs
 returns : tie.Need-returns Inv-loop μ-loop
 returns c =
     let s = c .before .before .before .before .before in
-    grid-done _ _ (s .args .l .n) (s .args .l .nsub) (s .args .codes .now) _ (c .before .loop .inv .2) (omega arith) (omega (arith, s .pre .codes-long))
+    grid-done _ _ (s .args .l .n) (s .args .l .shape .nsub) (s .args .codes .now) _ (c .before .loop .inv .2) (omega arith) (omega (arith, s .pre .codes-long))
 
 pub fill-codes-spec : {M : Type 1} → statement M
 fill-codes-spec =

@@ -6,15 +6,15 @@ use lib.ListN.{length, take}
 use lib.Seq.{length-take-le, length-front}
 use Rattle.lists.specs.Lists.{fill}
 use Rattle.pq_train.proofs.Laws.{told-refusal}
-use Rattle.pq_idx.specs.Outcomes.{TrainIn}
-use Rattle.pq_idx.proofs.TrainingLaws.{all-listed, ended-refused, ended-done}
-use Rattle.pq_idx.proofs.training.train_ready.Statement.{statement}
-use Rattle.pq_idx.proofs.training.train_ready.Tie as tie
-use Rattle.pq_idx.proofs.training.train_ready.Reads as reads
-use Rattle.pq_idx.proofs.training.train_ready.Lts as lts
+use Rattle.plain_train.specs.Outcome.{TrainIn}
+use Rattle.plain_train.proofs.AllRows.{all-listed, ended-refused, ended-done}
+use Rattle.plain_train.proofs.train_ready.Statement.{statement}
+use Rattle.plain_train.proofs.train_ready.Tie as tie
+use Rattle.plain_train.proofs.train_ready.Reads as reads
+use Rattle.plain_train.proofs.train_ready.Lts as lts
 use Rattle.lists.proofs.fill_bytes.Reads as fill-bytes-reads
 use Rattle.lists.proofs.fill_numbers.Reads as fill-numbers-reads
-use Rattle.pq_idx.proofs.training.fill_codes.Reads as fill-codes-reads
+use Rattle.plain_train.proofs.fill_codes.Reads as fill-codes-reads
 use Rattle.pq_train.proofs.train_list.Reads as train-list-reads
 
 abbrev given : tie.Start → TrainIn

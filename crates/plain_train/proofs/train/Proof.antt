@@ -1,13 +1,13 @@
 use borrow.Author.Needs.{needs}
 use mathlib.Core.Path.{_∙_}
-use Rattle.pq_idx.specs.Outcomes.{TrainIn}
+use Rattle.plain_train.specs.Outcome.{TrainIn}
 use Rattle.pq_idx.proofs.TrainOutcome.{ready, out-refused, out-worked}
-use Rattle.pq_idx.proofs.training.train.Statement.{statement}
-use Rattle.pq_idx.proofs.training.train.Tie as tie
-use Rattle.pq_idx.proofs.training.train.Reads as reads
-use Rattle.pq_idx.proofs.training.train.Lts as lts
-use Rattle.pq_idx.proofs.training.train_ready.Reads as train-ready-reads
-use Rattle.pq_idx.proofs.training.train_refusal.Reads as train-refusal-reads
+use Rattle.plain_train.proofs.train.Statement.{statement}
+use Rattle.plain_train.proofs.train.Tie as tie
+use Rattle.plain_train.proofs.train.Reads as reads
+use Rattle.plain_train.proofs.train.Lts as lts
+use Rattle.plain_train.proofs.train_ready.Reads as train-ready-reads
+use Rattle.plain_train.proofs.train_refusal.Reads as train-refusal-reads
 
 abbrev given : tie.Start → TrainIn
 given c =
