@@ -1,0 +1,5 @@
+pub mod Coordinates
+pub mod Runs
+pub mod Counts
+pub mod Donor
+pub mod Keeping
