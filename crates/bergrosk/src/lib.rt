@@ -113,7 +113,7 @@ pub extern "C" fn bergrosk_plain_train(
 ) -> TrainAnswer
     ensures { λ r. ⌜ plainTrained r (now (subs .exit)) (now (codes .exit)) (now (work .exit))
         ≡ plainTrainFaced (plainTrainIn (shapeOf d nsub bits) epochs n (now (rows .entry)) (now (draws .entry))
-            (now (subs .entry)) (now (codes .entry)) (now (work .entry))) ⌝ }
+        (now (subs .entry)) (now (codes .entry)) (now (work .entry))) ⌝ }
 {
     let s = Shape { d, nsub, bits };
     let t = plain_train::train(s, epochs, n, rows, draws, subs, codes, work);
@@ -137,7 +137,7 @@ pub extern "C" fn bergrosk_plain_search(
 ) -> SearchAnswer
     ensures { λ r. ⌜ facedSearch r (now (rows .exit)) (now (sums .exit)) (now (table .exit))
         ≡ plainSearchFaced (plainSearchIn (shapeOf d nsub bits) n (now (query .entry)) (now (mask .entry)) (now (subs .entry))
-            (now (codes .entry)) (now (rows .entry)) (now (sums .entry)) (now (table .entry))) ⌝ }
+        (now (codes .entry)) (now (rows .entry)) (now (sums .entry)) (now (table .entry))) ⌝ }
 {
     let s = Shape { d, nsub, bits };
     let t = plain_search::search(s, n, query, mask, subs, codes, rows, sums, table);
@@ -164,14 +164,24 @@ pub extern "C" fn bergrosk_celled_train(
     work: &mut [u32],
 ) -> TrainAnswer
     ensures { λ r. ⌜ celledTrained r (now (coarse .exit)) (now (starts .exit)) (now (members .exit)) (now (subs .exit))
-            (now (codes .exit)) (now (work .exit))
+        (now (codes .exit)) (now (work .exit))
         ≡ celledTrainFaced (celledTrainIn (celledShapeOf d nsub bits cells probes) epochs n (now (rows .entry)) (now (draws .entry))
-            (now (coarse .entry)) (now (starts .entry)) (now (members .entry)) (now (subs .entry)) (now (codes .entry))
-            (now (work .entry))) ⌝ }
+        (now (coarse .entry)) (now (starts .entry)) (now (members .entry)) (now (subs .entry)) (now (codes .entry))
+        (now (work .entry))) ⌝ }
 {
     let s = celled_shape(d, nsub, bits, cells, probes);
     let t = celled_train::train(
-        s, epochs, n, rows, draws, coarse, starts, members, subs, codes, work,
+        s,
+        epochs,
+        n,
+        rows,
+        draws,
+        coarse,
+        starts,
+        members,
+        subs,
+        codes,
+        work,
     );
     answers::train_answer(t)
 }
@@ -194,7 +204,7 @@ pub extern "C" fn bergrosk_celled_check(
 ) -> u32
     ensures { λ r. ⌜ facedCheck r (now (work .exit))
         ≡ checkFaced (checkIn (indexOf (celledShapeOf d nsub bits cells probes) n (now (coarse .entry)) (now (starts .entry))
-            (now (members .entry)) (now (subs .entry)) (now (codes .entry))) (now (work .entry))) ⌝ }
+        (now (members .entry)) (now (subs .entry)) (now (codes .entry))) (now (work .entry))) ⌝ }
 {
     let s = celled_shape(d, nsub, bits, cells, probes);
     let c = celled_check::check(s, n, coarse, starts, members, subs, codes, work);
@@ -223,12 +233,23 @@ pub extern "C" fn bergrosk_celled_search(
 ) -> SearchAnswer
     ensures { λ r. ⌜ facedSearch r (now (rows .exit)) (now (sums .exit)) (now (table .exit))
         ≡ celledSearchFaced (celledSearchIn (indexOf (celledShapeOf d nsub bits cells probes) n (now (coarse .entry))
-            (now (starts .entry)) (now (members .entry)) (now (subs .entry)) (now (codes .entry))) (now (query .entry))
-            (now (mask .entry)) (now (rows .entry)) (now (sums .entry)) (now (table .entry))) ⌝ }
+        (now (starts .entry)) (now (members .entry)) (now (subs .entry)) (now (codes .entry))) (now (query .entry))
+        (now (mask .entry)) (now (rows .entry)) (now (sums .entry)) (now (table .entry))) ⌝ }
 {
     let s = celled_shape(d, nsub, bits, cells, probes);
     let t = celled_search::search(
-        s, n, query, mask, coarse, starts, members, subs, codes, rows, sums, table,
+        s,
+        n,
+        query,
+        mask,
+        coarse,
+        starts,
+        members,
+        subs,
+        codes,
+        rows,
+        sums,
+        table,
     );
     answers::search_answer(t)
 }

@@ -10,19 +10,19 @@ use native.Mathlib.Nat.{add-assoc, le-of-lt, mul-add, mul-zero, mul-le-mul-left,
 use native.Mathlib.Decide.{decLe}
 use native.Mathlib.Numerals.{add-one}
 use native.Mathlib.Omega.{arith}
-use lib.ListN.{length, getD}
+use lib.ListN.{length}
 use lib.Ieee.{Float, nan}
 use Rattle.lists.specs.Lists.{part, putPart, fill, Part, memberOf}
 use Rattle.lists.proofs.Parts.{getD-part, length-part}
 use Rattle.lists.proofs.Joins.{Begins, part-join}
-use Rattle.metrics.specs.Distance.{valueOf, valueIn, zero32}
+use Rattle.metrics.specs.Distance.{valueIn, zero32}
 use Rattle.pq_params.specs.Bounds.{badPlain, centersOf}
 use Rattle.pq_params.specs.Ranges.{beginOf, widthOf, coveredOf}
 use Rattle.pq_params.proofs.Bounds.{plain-bounds, range-bounds, centers-some, centers-most}
 use Rattle.pq_params.proofs.RangeRule.{begin-zero, begin-next, begin-mono, begin-within, width-most}
 use Rattle.answers.specs.declared.Clustered.{Clustered}
 use Rattle.answers.specs.declared.Clustered.the-variants.{Done as ClusteredDone, OutOfDraws as ClusteredOut, NotFinite as ClusteredBroken}
-use Rattle.kmeans_assign.specs.Task.{valueAt, taskOf as frameTask, Framed, Task}
+use Rattle.kmeans_assign.specs.Task.{valueAt, taskOf as frameTask}
 use Rattle.kmeans_split.specs.Run.{Run}
 use Rattle.kmeans.specs.Kmeans.{train}
 use Rattle.kmeans_assign.specs.Assign.{chosen}
@@ -36,8 +36,8 @@ use Rattle.answers.specs.declared.Trained.{Trained}
 use Rattle.answers.specs.declared.Trained.the-variants.{Done, Refused, OutOfDraws, NotFinite}
 use Rattle.answers.proofs.Trained.{the-type}
 use Rattle.answers.specs.Answers.{staged, goOn, drawsUsed, ended}
-use Rattle.pq_train.specs.Training.{Listed, valueOnRange, taskOf, reached, centersAt, answerOf, subCenters, codeOf}
-use Rattle.pq_train.specs.Inner.{valuesOf, listedOf, frameOf, Listing, FramedIn, RanAt, Centered, ListOut, listOutcome, Coding, codeBy}
+use Rattle.pq_train.specs.Training.{Listed, valueOnRange, taskOf, reached, centersAt, subCenters, codeOf}
+use Rattle.pq_train.specs.Inner.{listedOf, frameOf, Listing, FramedIn, RanAt, Centered, ListOut, listOutcome, Coding, codeBy}
 use Rattle.pq_train.proofs.Values.{train-same}
 
 -- ---- one sub-space

@@ -2,19 +2,18 @@
 use Prim.Native.Nat.{ℕ, zero, suc, _<_}
 use mathlib.Core.Path.{_≡_, refl, ap, fun-ext}
 use mathlib.Core.List.{List}
-use mathlib.Core.Bool.{Bool, cond}
+use mathlib.Core.Bool.{Bool}
 use native.Mathlib.Omega.{arith}
 use lib.IntN.{pos}
-use lib.Ieee.{Float, binary32, div, ofInt, add, sub}
-use Rattle.lists.specs.Lists.{tab, grid}
+use lib.Ieee.{Float, binary32, div, ofInt}
 use Rattle.lists.proofs.Tables.{tab-ext}
 use Rattle.lists.proofs.Joins.{grid-ext}
 use Rattle.metrics.proofs.Laws.{sum-ext}
 use Rattle.kmeans_assign.specs.Task.{Task}
 use Rattle.kmeans_split.specs.Run.{Run, onwardBy}
-use Rattle.kmeans_average.specs.Start.{column, meanAt, startAt, started}
+use Rattle.kmeans_start.specs.Start.{column, meanAt, meanOf, startAt, started}
 use Rattle.kmeans_assign.specs.Assign.{assignedOf}
-use Rattle.kmeans_average.specs.Average.{isOf, countAt, sumWhere, meanOf, averageAt, averagesOf}
+use Rattle.kmeans_average.specs.Average.{isOf, countAt, sumWhere, averageAt, averagesOf}
 use Rattle.kmeans_split.specs.Split.{splitOff, fillCenter, splitTo}
 use Rattle.kmeans.specs.Kmeans.{averaged, epochOf, beginning, epochsTo, train}
 use Rattle.kmeans_assign.proofs.Choosing.{chosen-ext}

@@ -2,17 +2,18 @@
 use Prim.Native.Nat.{ℕ, _+_, _*_, _≤_, _<_}
 use mathlib.Core.Path.{_≡_}
 use mathlib.Core.List.{List}
-use mathlib.Core.Bool.{Bool, true, false}
+use mathlib.Core.Bool.{true, false}
 use lib.ListN.{length, getD}
 use lib.Ieee.{Float, nan}
 use Rattle.lists.specs.Lists.{fill, part, putPart, memberOf}
 use Rattle.metrics.specs.Distance.{zero32, valueOf, valueIn}
+use Rattle.pq_params.specs.declared.Shape.{Shape}
 use Rattle.pq_params.specs.Bounds.{badPlain, centersOf}
 use Rattle.pq_params.specs.Ranges.{beginOf, widthOf, onRange}
 use Rattle.pq_params.specs.Lengths.{subsLong}
 use Rattle.kmeans_assign.specs.declared.Frame.{Frame}
 use Rattle.answers.specs.declared.Clustered.{Clustered}
-use Rattle.kmeans_assign.specs.Task.{Framed, Task}
+use Rattle.kmeans_assign.specs.Task.{Framed, Task, taskOf as frameTask}
 use Rattle.kmeans.specs.Kmeans.{train}
 use Rattle.kmeans_assign.specs.Assign.{chosen}
 use Rattle.kmeans_split.specs.Split.{NotNegative}

@@ -3,12 +3,11 @@ use Prim.Native.Nat.{ℕ, zero, suc, _+_, _*_}
 use mathlib.Core.List.{List}
 use lib.ListN.{getD}
 use lib.Ieee.{Float, nan}
-use Rattle.lists.specs.Lists.{join, grid}
+use Rattle.lists.specs.Lists.{join}
 use Rattle.pq_params.specs.Bounds.{centersOf}
 use Rattle.pq_params.specs.declared.Shape.{Shape}
 use Rattle.pq_params.specs.Ranges.{widthOf, onRange}
 use Rattle.kmeans_assign.specs.Task.{Task}
-use Rattle.kmeans_split.specs.Run.{Run}
 use Rattle.kmeans.specs.Kmeans.{train}
 use Rattle.kmeans_assign.specs.Assign.{chosen}
 use Rattle.answers.specs.declared.Trained.{Trained}

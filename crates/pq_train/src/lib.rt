@@ -1,11 +1,10 @@
 // Training of one list of rows, all rows or those of a cell: its sub-centres, and the codes of its rows.
 ghost use mathlib.Core.Path.{_≡_};
-ghost use mathlib.Core.Bool.{true, false};
-ghost use Prim.Native.Nat.{ℕ, _+_, _*_, _≤_, _<_};
-ghost use lib.ListN.{length, getD};
+ghost use mathlib.Core.Bool.{false};
+ghost use Prim.Native.Nat.{_+_, _*_, _≤_, _<_};
+ghost use lib.ListN.{length};
 ghost use Rattle.lists.specs.Lists.{part, putPart, tab};
-ghost use Rattle.pq_params.specs.Bounds.{badPlain, centersOf};
-ghost use Rattle.pq_params.specs.Ranges.{beginOf, widthOf};
+ghost use Rattle.pq_params.specs.Bounds.{badPlain};
 ghost use Rattle.kmeans_split.specs.Split.{NotNegative};
 ghost use Rattle.pq_train.specs.Training.{taskOf as subTask};
 ghost use Rattle.pq_train.specs.Inner.{listedOf, frameOf, Listing, Lent, FramedIn, rangeTask, Ran, RanAt, stretchAt, stretchLong};
@@ -192,7 +191,7 @@ pub fn train_list(
     requires { ⌜ Lent l used (now draws) (now subs) (now assigned) ⌝ }
     ensures { λ r. ⌜ listOut r (now (subs .exit)) (now (assigned .exit))
         ≡ listOutcome (listedOf l (now (rows .entry)) (now (members .entry)) (now (center .entry)) (now (draws .entry)) used)
-            (length (now (subs .entry))) ⌝ }
+        (length (now (subs .entry))) ⌝ }
 {
     let t = train_center(l, rows, members, center, draws, used, subs, assigned);
     lists::fill_numbers(assigned, 0);

@@ -1,21 +1,13 @@
-use borrow.Author.Needs.{needs}
-use Prim.Native.Nat.{ℕ, _+_, _*_, _≤_, _<_}
-use mathlib.Core.Path.{_≡_, sym, _∙_, ap}
+use Prim.Native.Nat.{ℕ, _*_}
+use mathlib.Core.Path.{sym, _∙_, ap}
 use native.Mathlib.Omega.{arith}
 use native.Mathlib.Nat.{lt-of-lt-of-le}
-use lib.ListN.{length}
 use Rattle.pq_params.specs.Bounds.{centersOf}
-use Rattle.pq_params.specs.Ranges.{beginOf, widthOf, coveredOf}
 use Rattle.pq_params.proofs.Numbers.{numbers}
 use Rattle.kmeans_assign.proofs.Choosing.{nearest-lt}
 use Rattle.pq_train.proofs.Laws.{range-inside, code-stretch, code-chosen}
 use Rattle.pq_train.proofs.code_of.Statement.{statement}
 use Rattle.pq_train.proofs.code_of.Tie as tie
-use Rattle.pq_train.proofs.code_of.Reads as reads
-use Rattle.pq_train.proofs.code_of.Lts as lts
-use Rattle.kmeans_assign.proofs.nearest.Reads as nearest-reads
-use Rattle.lists.proofs.part.Reads as part-reads
-use Rattle.pq_train.proofs.frame.Reads as frame-reads
 
 frame-requires : tie.Need-frame-requires
 frame-requires c κs =

@@ -1,13 +1,7 @@
-use borrow.Author.Needs.{needs}
 use native.Mathlib.Nat.{le-of-lt}
 use Rattle.pq_params.proofs.Bounds.{plain-bounds}
 use Rattle.pq_train.proofs.frame.Statement.{statement}
 use Rattle.pq_train.proofs.frame.Tie as tie
-use Rattle.pq_train.proofs.frame.Reads as reads
-use Rattle.pq_train.proofs.frame.Lts as lts
-use Rattle.pq_params.proofs.centers.Reads as centers-reads
-use Rattle.pq_params.proofs.range_begin.Reads as range-begin-reads
-use Rattle.pq_params.proofs.range_width.Reads as range-width-reads
 
 range-begin-requires : tie.Need-range-begin-requires
 range-begin-requires c κs =

@@ -6,13 +6,6 @@ use Rattle.pq_params.specs.Ranges.{beginOf}
 use Rattle.pq_train.proofs.Laws.{stretch-within, begin-fits, frame-held, ran-sub}
 use Rattle.pq_train.proofs.train_sub.Statement.{statement}
 use Rattle.pq_train.proofs.train_sub.Tie as tie
-use Rattle.pq_train.proofs.train_sub.Reads as reads
-use Rattle.pq_train.proofs.train_sub.Lts as lts
-use Rattle.pq_train.proofs.frame.Reads as frame-reads
-use Rattle.pq_train.proofs.train_at.Reads as train-at-reads
-
-frame-requires : tie.Need-frame-requires
-frame-requires c κs = search needs
 
 mul-at : tie.Need-mul-at
 mul-at c =
@@ -33,12 +26,6 @@ train-at-requires c κs =
       ),
     )
 
-same-length : tie.Need-same-length
-same-length c = search needs
-
-same-length-2 : tie.Need-same-length-2
-same-length-2 c = search needs
-
 returns : tie.Need-returns
 returns c =
     let s = c .before .before .before .before .before .before .before .before .before .before .before .before .before .before .before in
@@ -46,4 +33,4 @@ returns c =
 
 pub train-sub-spec : {M : Type 1} → statement M
 train-sub-spec =
-    tie.close (tie.spec frame-requires mul-at train-at-requires same-length same-length-2 returns)
+    tie.close (tie.spec (λ c κs. search needs) mul-at train-at-requires (λ c. search needs) (λ c. search needs) returns)
