@@ -6,3 +6,4 @@ pub mod Tests
 pub mod Counting
 pub mod Rising
 pub mod Examples
+pub mod Determinacy

@@ -11,7 +11,7 @@ use Rattle.lists.proofs.Tests.{count-le}
 use Rattle.kmeans_average.specs.Average.{isOf, sumWhere}
 use Rattle.kmeans_assign.specs.Task.{rowTask}
 use Rattle.kmeans_average.specs.AverageInner.{centerSum}
-use Rattle.kmeans_assign.proofs.Rows.{row-value}
+use Rattle.kmeans_assign.proofs.Rows.{row-held, row-value}
 use Rattle.kmeans_average.proofs.Averaging.{countTo, center-step, count-step}
 use Rattle.kmeans_average.proofs.accumulate.Statement.{statement}
 use Rattle.kmeans_average.proofs.accumulate.Tie as tie
@@ -36,6 +36,9 @@ unfolding sumWhere count
 loop-holds c =
     let s = c .before .before .before .before .before .before in
     (search needs, refl, refl, s .pre .1 .1 .0 ∙ grid-fill _ _ _, s .pre .1 .1 .1)
+
+row-range-requires : tie.Need-row-range-requires Inv-loop μ-loop
+row-range-requires c κs = row-held (c .before .before .before .before .before .before .before .before .pre .0) (c .loop-test .taken)
 
 shared-slice-read-wide : tie.Need-shared-slice-read-wide Inv-loop μ-loop
 shared-slice-read-wide c =
@@ -90,7 +93,7 @@ accumulate-spec =
     Inv-loop
     μ-loop
     loop-holds
-    (λ c κs. search needs)
+    row-range-requires
     (λ c. search needs)
     shared-slice-read-wide
     (λ c κs. search needs)
