@@ -7,3 +7,6 @@ pub mod Counting
 pub mod Rising
 pub mod Examples
 pub mod Determinacy
+pub mod Walks
+pub mod Counts
+pub mod Kept
