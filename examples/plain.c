@@ -24,7 +24,7 @@ enum {
 
 /* What an engine keeps of a plain index. */
 typedef struct {
-    bergrosk_lengths lengths;
+    bergrosk_plain_buffers lengths;
     float *subs;
     uint8_t *codes;
 } plain_index;
@@ -65,7 +65,7 @@ static void make_points(const float *around, size_t points, float *out) {
 
 static bergrosk_train_answer train(
     plain_index *index, const float *rows, const double *draws, size_t n_draws) {
-    const bergrosk_lengths *is = &index->lengths;
+    const bergrosk_plain_buffers *is = &index->lengths;
     uint32_t *work = elements(is->work, sizeof *work);
     bergrosk_train_answer answer = bergrosk_plain_train(
         D, N_SUB, SUB_BITS, EPOCHS, ROWS, rows, is->rows, draws, n_draws, index->subs, is->subs,
@@ -76,7 +76,7 @@ static bergrosk_train_answer train(
 
 static bergrosk_search_answer search(
     const plain_index *index, const float *query, const uint8_t *mask, results *found) {
-    const bergrosk_lengths *is = &index->lengths;
+    const bergrosk_plain_buffers *is = &index->lengths;
     float table[N_SUB << SUB_BITS];
     return bergrosk_plain_search(
         D, N_SUB, SUB_BITS, ROWS, query, D, mask, ROWS, index->subs, is->subs, index->codes,

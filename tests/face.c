@@ -17,7 +17,7 @@ LAYOUT(used_is_aligned, offsetof(bergrosk_train_answer, used) == 32);
 LAYOUT(train_answer_is_40, sizeof(bergrosk_train_answer) == 40);
 LAYOUT(search_answer_is_24, sizeof(bergrosk_search_answer) == 24);
 LAYOUT(range_answer_is_24, sizeof(bergrosk_range_answer) == 24);
-LAYOUT(lengths_are_48, sizeof(bergrosk_lengths) == 48);
+LAYOUT(lengths_are_48, sizeof(bergrosk_plain_buffers) == 48);
 
 static int passed, failed;
 
@@ -56,7 +56,7 @@ static void ranges(void) {
 }
 
 static void lengths(void) {
-    bergrosk_lengths l = bergrosk_plain_lengths(60, 25, 4, 100001);
+    bergrosk_plain_buffers l = bergrosk_plain_lengths(60, 25, 4, 100001);
     EXPECT(l.number == 0 && l.rows == 6000060 && l.subs == 16 * 50 && l.codes == 2500025);
     EXPECT(l.work == 101025 && l.table == 400);
     EXPECT(bergrosk_plain_lengths(60, 25, 4, 0).work == 1024);
