@@ -71,6 +71,7 @@ fn not_trained(training: &Training, reply: &Reply) -> Option<String> {
     if let Some(Err(number)) = reply.check {
         return Some(format!("the whole check refuses the trained index with {number}"));
     }
+    assert_eq!(training.results.len(), reply.searches.len(), "a search for each query");
     work_left(reply).or_else(|| {
         let pairs = training.results.iter().zip(&reply.searches).enumerate();
         pairs.map(|(at, (right, heard))| unequal_search(at, right, heard)).find(Option::is_some)?
