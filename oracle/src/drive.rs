@@ -15,8 +15,8 @@ pub struct Reply {
     pub work: Vec<u32>,
     /// One for each query, if it trained.
     pub searches: Vec<Heard>,
-    /// What the whole check says to a trained celled index.
-    pub check: Option<Checked>,
+    /// What the whole check says to a trained celled index, and the work that it leaves.
+    pub check: Option<(Checked, Vec<u32>)>,
 }
 
 /// One search as heard.
@@ -190,7 +190,8 @@ fn hear_celled(subject: &dyn Subject, case: &CelledCase) -> Reply {
         searches = case.plain.queries.iter().map(search).collect();
         let mut work = vec![JUNK_U32; n + 1024];
         let index = lent.index(&lent.codes);
-        check = Some(subject.check_celled(CelledCheck { params, n, index, work: &mut work }));
+        let checked = subject.check_celled(CelledCheck { params, n, index, work: &mut work });
+        check = Some((checked, work));
     }
     Reply { answer, buffers: lent.named(), work, searches, check }
 }
