@@ -1,2 +1,4 @@
 pub mod Check
+pub mod Sight
 pub mod Policy
+pub mod Results
