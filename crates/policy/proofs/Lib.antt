@@ -2,6 +2,7 @@ pub mod Standing
 pub mod Check
 pub mod Cells
 pub mod Policy
+pub mod PlainPolicy
 pub mod Twice
 pub mod PolicyExamples
 pub mod Examples

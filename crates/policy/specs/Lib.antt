@@ -1,4 +1,5 @@
 pub mod Check
 pub mod Sight
 pub mod Policy
+pub mod PlainPolicy
 pub mod Results
