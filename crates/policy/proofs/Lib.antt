@@ -6,4 +6,5 @@ pub mod PlainPolicy
 pub mod Twice
 pub mod PolicyExamples
 pub mod Examples
+pub mod Promised
 pub mod Determinacy
