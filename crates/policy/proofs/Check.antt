@@ -26,7 +26,7 @@ use Rattle.celled_lists.specs.Lists.{startOf, neverFalls, startsSound, isBelow,
 use Rattle.celled_lists.proofs.Starts.{first-start, last-start, next-start}
 use Rattle.celled_lists.proofs.Lengths.{sized}
 use Rattle.celled_check.specs.Check.{cellSound, standsOnce, indexSound, CheckIn, CheckOut, checkLengths, checkRefusal, unchanged, accepted, damaged, checkOutcome}
-use Rattle.policy.specs.Check.{InBounds, RightLengths, HoldsAt, StandsIn, EachBelow, EachBelowNext, listAt, InOrder, Acceptable}
+use Rattle.policy.specs.Check.{InBounds, HoldsAt, StandsIn, EachBelow, EachBelowNext, listAt, InOrder, Acceptable}
 
 -- ---- a row stands once
 

@@ -8,3 +8,6 @@ pub mod PolicyExamples
 pub mod Examples
 pub mod Promised
 pub mod Determinacy
+pub mod LessZero
+pub mod OneCell
+pub mod OneCellExamples

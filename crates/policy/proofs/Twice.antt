@@ -10,7 +10,7 @@ use lib.Seq.{getD-take}
 use lib.Dec.{eqb}
 use lib.Ieee.{Float}
 use Rattle.lists.specs.Lists.{tab, fill, join}
-use Rattle.lists.proofs.Tables.{last-or, map-tab, length-tab, getD-tab}
+use Rattle.lists.proofs.Tables.{map-tab, length-tab, getD-tab}
 use Rattle.lists.proofs.TakeDrop.{map-take}
 use Rattle.lists.proofs.Parts.{getD-part, within-part}
 use Rattle.lists.proofs.Rising.{Rises, rises-keep}

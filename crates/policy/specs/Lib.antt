@@ -3,3 +3,4 @@ pub mod Sight
 pub mod Policy
 pub mod PlainPolicy
 pub mod Results
+pub mod OneCell
