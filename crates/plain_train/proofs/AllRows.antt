@@ -1,24 +1,24 @@
 -- Laws on the plain training: it trains one list of all rows, and what the two ends of that leave.
-use Prim.Native.Nat.{ℕ, _*_, _≤_, _<_}
+use Prim.Native.Nat.{ℕ, _*_, _<_}
 use mathlib.Core.Path.{_≡_, refl, sym, _∙_, ap}
 use mathlib.Core.List.{List}
 use mathlib.Core.Bool.{false, true, false≢true}
 use native.Mathlib.Omega.{arith}
-use lib.ListN.{length, getD}
+use lib.ListN.{length}
 use lib.Ieee.{Float, nan}
 use Rattle.lists.specs.Lists.{part, grid, fill}
 use Rattle.lists.proofs.Parts.{getD-part, length-part}
 use Rattle.lists.proofs.Joins.{within, grid-ext}
-use Rattle.metrics.specs.Distance.{zero32, valueOf, valueIn}
+use Rattle.metrics.specs.Distance.{zero32, valueOf}
 use Rattle.pq_params.specs.Bounds.{badPlain}
 use Rattle.pq_train.specs.declared.RowList.{RowList}
 use Rattle.answers.specs.declared.Trained.{Trained}
 use Rattle.answers.specs.declared.Trained.the-variants.{Done, Refused, OutOfDraws, NotFinite}
 use Rattle.answers.specs.Answers.{ended}
-use Rattle.pq_train.specs.Training.{Listed, rowAt, codeOf, answerOf, subCenters}
+use Rattle.pq_train.specs.Training.{Listed, rowAt, answerOf, subCenters}
 use Rattle.pq_train.specs.Inner.{listedOf, Listing, Coding, ListOut, listOutcome}
 use Rattle.pq_train.proofs.Laws.{Refusal, code-is}
-use Rattle.plain_train.specs.Outcome.{TrainIn, TrainOut, trainOut, allRows, plainCode, trainDone, trainZero, trainEnded}
+use Rattle.plain_train.specs.Outcome.{TrainIn, trainOut, allRows, plainCode, trainDone, trainZero, trainEnded}
 use Rattle.plain_train.specs.TrainInner.{plainList, Ready, Codable, codeIn}
 
 -- the rows hold the list of all of them, and a residual that is not taken off

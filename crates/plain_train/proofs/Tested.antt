@@ -5,9 +5,8 @@ use mathlib.Core.List.{List}
 use mathlib.Core.Bool.{Bool, false, not, _||_}
 use borrow.Author.Tests.{ltb-false, ne-eqb, not-false}
 use lib.ListN.{length, getD}
-use lib.Dec.{eqb}
 use lib.Ieee.{Float, nan}
-use Rattle.lists.specs.Tests.{anyOf, every}
+use Rattle.lists.specs.Tests.{anyOf}
 use Rattle.lists.proofs.Tests.{none, or-l, or-r, and-l, every-true}
 use Rattle.pq_params.specs.declared.PlainLengths.{PlainLengths}
 use Rattle.pq_params.specs.Bounds.{badPlain, badEpochs}

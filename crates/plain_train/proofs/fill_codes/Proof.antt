@@ -1,5 +1,5 @@
 use borrow.Author.Needs.{needs}
-use Prim.Native.Nat.{ℕ, _+_, _*_, _-_, _≤_}
+use Prim.Native.Nat.{_+_, _*_, _-_, _≤_}
 use mathlib.Core.Path.{_≡_, refl, _∙_}
 use mathlib.Core.List.{_++_}
 use native.Mathlib.Omega.{arith}
@@ -8,16 +8,12 @@ use Rattle.lists.specs.Lists.{grid}
 use Rattle.lists.proofs.Joins.{within, grid-none, grid-step, grid-done}
 use Rattle.plain_train.specs.TrainInner.{codeIn}
 use Rattle.plain_train.proofs.AllRows.{row-coding}
-use Prim.Native.Nat.{ℕ, suc, _+_, _*_, _-_, _≤_, _<_}
-use mathlib.Core.Path.{_≡_, refl, sym, _∙_, ap}
+use Prim.Native.Nat.{_+_, _*_, _-_, _≤_}
+use mathlib.Core.Path.{_≡_, refl, _∙_}
 use native.Mathlib.Omega.{arith}
-use native.Mathlib.Numerals.{add-one}
-use lib.ListN.{length, getD, drop, take}
+use lib.ListN.{length, drop}
 use Rattle.plain_train.proofs.fill_codes.Statement.{statement}
 use Rattle.plain_train.proofs.fill_codes.Tie as tie
-use Rattle.plain_train.proofs.fill_codes.Reads as reads
-use Rattle.plain_train.proofs.fill_codes.Lts as lts
-use Rattle.pq_train.proofs.fill_row.Reads as fill-row-reads
 
 abbrev Inv-loop : tie.InvT-loop
 Inv-loop l rows subs codes₀ m₀ m-end codes m = (m ≤ l .n) × (length codes ≡ length codes₀) × (codes ≡ grid (codeIn l rows subs) m (l .shape .nsub) ++ drop (m * l .shape .nsub) codes₀)
@@ -39,19 +35,10 @@ fill-row-requires c κs =
       omega (arith, within (i .m) (l .n) (l .shape .nsub) h, s .pre .codes-long, i .inv .1),
     )
 
-add-m : tie.Need-add-m Inv-loop μ-loop
-add-m c = search needs
-
-loop-less : tie.Need-loop-less Inv-loop μ-loop
-loop-less c = search needs
-
 loop-again : tie.Need-loop-again Inv-loop μ-loop
 loop-again c =
     let i = c .before .before .before .before .before .loop in
     (search needs, search needs, c .before .before .fill-row .ensures ∙ grid-step _ (i .m) _ _ _ _ (i .inv .2) refl)
-
-same-length : tie.Need-same-length Inv-loop μ-loop
-same-length c = search needs
 
 returns : tie.Need-returns Inv-loop μ-loop
 returns c =
@@ -66,8 +53,8 @@ fill-codes-spec =
     μ-loop
     loop-holds
     fill-row-requires
-    add-m
-    loop-less
+    (λ c. search needs)
+    (λ c. search needs)
     loop-again
-    same-length
+    (λ c. search needs)
     returns)
