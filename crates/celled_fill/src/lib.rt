@@ -38,7 +38,15 @@ fn assign_cells(s: CelledShape, n: usize, rows: &[f32], coarse: &[f32], cells: &
 }
 
 // The cell of each row, and from these the lists: each row in its cell, numbers rising. Work is zero afterwards.
-pub fn fill_lists(s: CelledShape, n: usize, rows: &[f32], coarse: &[f32], starts: &mut [u32], members: &mut [u32], work: &mut [u32])
+pub fn fill_lists(
+    s: CelledShape,
+    n: usize,
+    rows: &[f32],
+    coarse: &[f32],
+    starts: &mut [u32],
+    members: &mut [u32],
+    work: &mut [u32],
+)
     requires { ⌜ Rows s n (now rows) (now coarse) × Lent s n (now starts) (now members) (now work) ⌝ }
     ensures { λ _. ⌜ Filled s n (now (rows .entry)) (now (coarse .entry)) (now (work .entry))
         (now (starts .exit)) (now (members .exit)) (now (work .exit)) ⌝ }

@@ -5,9 +5,9 @@ use lib.ListN.{length}
 use mathlib.Core.Path.{_≡_, refl, _∙_, ap}
 use native.Mathlib.Numerals.{add-one}
 use native.Mathlib.Omega.{arith}
-use Rattle.cell_sums.specs.SumsInner.{numberAt, highestOf}
-use Rattle.cell_sums.proofs.highest.Statement.{statement}
-use Rattle.cell_sums.proofs.highest.Tie as tie
+use Rattle.cell_codes.specs.CodesInner.{numberAt, highestOf}
+use Rattle.cell_codes.proofs.highest.Statement.{statement}
+use Rattle.cell_codes.proofs.highest.Tie as tie
 
 abbrev Inv-loop : tie.InvT-loop
 Inv-loop codes most₀ i₀ i-end most i = (i ≤ length codes) × (most ≡ highestOf (numberAt codes) i)

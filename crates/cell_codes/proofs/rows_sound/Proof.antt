@@ -9,10 +9,10 @@ use mathlib.Core.Path.{ap₂}
 use mathlib.Core.Bool.{_&&_}
 use Rattle.lists.specs.Tests.{every}
 use Rattle.lists.proofs.Joins.{within}
-use Rattle.cell_sums.specs.SumsInner.{rowSound}
-use Rattle.cell_sums.specs.SumsInner.{soundAt}
-use Rattle.cell_sums.proofs.rows_sound.Statement.{statement}
-use Rattle.cell_sums.proofs.rows_sound.Tie as tie
+use Rattle.cell_codes.specs.CodesInner.{rowSound}
+use Rattle.cell_codes.specs.CodesInner.{soundAt}
+use Rattle.cell_codes.proofs.rows_sound.Statement.{statement}
+use Rattle.cell_codes.proofs.rows_sound.Tie as tie
 
 abbrev Inv-loop : tie.InvT-loop
 Inv-loop z centers mask codes members all₀ i₀ i-end all i = (i ≤ z .n) × (all ≡ every (soundAt z mask codes centers members) i)

@@ -3,9 +3,9 @@ use borrow.Author.Needs.{needs}
 use mathlib.Core.Path.{sym, _∙_}
 use native.Mathlib.Omega.{arith}
 use Rattle.pq_params.proofs.Numbers.{Numbers, numbers}
-use Rattle.cell_sums.proofs.CodesTest.{all-sound, highest-sound, sound-rows}
-use Rattle.cell_sums.proofs.codes_sound.Statement.{statement}
-use Rattle.cell_sums.proofs.codes_sound.Tie as tie
+use Rattle.cell_codes.proofs.CodesTest.{all-sound, highest-sound, sound-rows}
+use Rattle.cell_codes.proofs.codes_sound.Statement.{statement}
+use Rattle.cell_codes.proofs.codes_sound.Tie as tie
 
 known : (c : tie.Start) → Numbers (c .args .z .shape)
 known c = numbers (c .args .z .shape) (c .pre .0)

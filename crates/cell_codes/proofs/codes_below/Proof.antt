@@ -4,9 +4,9 @@ use borrow.Author.Needs.{needs}
 use mathlib.Core.Path.{_∙_, ap}
 use native.Mathlib.Omega.{arith}
 use lib.Dec.{ltb}
-use Rattle.cell_sums.proofs.CodesTest.{part-under}
-use Rattle.cell_sums.proofs.codes_below.Statement.{statement}
-use Rattle.cell_sums.proofs.codes_below.Tie as tie
+use Rattle.cell_codes.proofs.CodesTest.{part-under}
+use Rattle.cell_codes.proofs.codes_below.Statement.{statement}
+use Rattle.cell_codes.proofs.codes_below.Tie as tie
 
 returns : tie.Need-returns
 returns c =

@@ -1,7 +1,7 @@
 -- `larger`: the test decides.
 use borrow.Author.Tests.{lt-ltb, le-ltb}
-use Rattle.cell_sums.proofs.larger.Statement.{statement}
-use Rattle.cell_sums.proofs.larger.Tie as tie
+use Rattle.cell_codes.proofs.larger.Statement.{statement}
+use Rattle.cell_codes.proofs.larger.Tie as tie
 
 returns : tie.Need-returns
 returns c = rw (lt-ltb _ _ (c .if1 .taken))

@@ -13,8 +13,8 @@ use Rattle.lists.specs.Lists.{tab}
 use Rattle.lists.specs.Tests.{every, keep}
 use Rattle.lists.proofs.Tables.{last-or}
 use Rattle.lists.proofs.Tests.{every-ext, every-of, every-true, keep-yes, keep-no}
-use Rattle.cell_sums.specs.Sums.{ofAll}
-use Rattle.cell_sums.specs.SumsInner.{unless}
+use Rattle.cell_codes.specs.Codes.{ofAll}
+use Rattle.cell_codes.specs.CodesInner.{unless}
 
 -- of a list and one row more
 pub all-more : (f : ℕ → Bool) (xs : List ℕ) (x : ℕ) → ofAll f (xs ++ (x ∷ [])) ≡ (ofAll f xs && f x)

@@ -14,10 +14,10 @@ use Rattle.lists.proofs.Joins.{within}
 use Rattle.lists.specs.Lists.{memberOf}
 use Rattle.pq_params.specs.Bounds.{centersOf}
 use Rattle.cell_table.specs.declared.CellNumbers.{CellNumbers}
-use Rattle.cell_sums.specs.Sums.{rowsOf, visible, rowsSound}
-use Rattle.cell_sums.specs.SumsInner.{codesUnder}
-use Rattle.cell_sums.proofs.Shown.{unless-kept}
-use Rattle.cell_sums.specs.SumsInner.{numberAt, largerOf, highestOf, soundAt, Rows}
+use Rattle.cell_codes.specs.Codes.{rowsOf, visible, rowsSound}
+use Rattle.cell_codes.specs.CodesInner.{codesUnder}
+use Rattle.cell_codes.proofs.Shown.{unless-kept}
+use Rattle.cell_codes.specs.CodesInner.{numberAt, largerOf, highestOf, soundAt, Rows}
 
 abbrev below : (ℕ → ℕ) → ℕ → ℕ → Bool
 below g k i = ltb (g i) k

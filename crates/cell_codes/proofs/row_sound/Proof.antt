@@ -3,11 +3,11 @@ use borrow.Author.Needs.{needs}
 use mathlib.Core.Path.{_∙_}
 use mathlib.Core.Path.{ap₂}
 use mathlib.Core.Bool.{Bool, not, _||_}
-use Rattle.cell_sums.specs.Sums.{visible}
-use Rattle.cell_sums.specs.SumsInner.{codesUnder}
-use Rattle.cell_sums.proofs.CodesTest.{sound-or}
-use Rattle.cell_sums.proofs.row_sound.Statement.{statement}
-use Rattle.cell_sums.proofs.row_sound.Tie as tie
+use Rattle.cell_codes.specs.Codes.{visible}
+use Rattle.cell_codes.specs.CodesInner.{codesUnder}
+use Rattle.cell_codes.proofs.CodesTest.{sound-or}
+use Rattle.cell_codes.proofs.row_sound.Statement.{statement}
+use Rattle.cell_codes.proofs.row_sound.Tie as tie
 
 returns : tie.Need-returns
 returns c =

@@ -6,10 +6,10 @@ use mathlib.Core.Path.{_≡_, sym, _∙_, ap}
 use mathlib.Core.Bool.{false}
 use native.Mathlib.Omega.{arith}
 use Rattle.lists.specs.Lists.{memberOf}
-use Rattle.cell_sums.specs.Sums.{visible}
-use Rattle.cell_sums.proofs.Shown.{shown-none, shown-some}
-use Rattle.cell_sums.proofs.any_visible.Statement.{statement}
-use Rattle.cell_sums.proofs.any_visible.Tie as tie
+use Rattle.cell_codes.specs.Codes.{visible}
+use Rattle.cell_codes.proofs.Shown.{shown-none, shown-some}
+use Rattle.cell_codes.proofs.any_visible.Statement.{statement}
+use Rattle.cell_codes.proofs.any_visible.Tie as tie
 
 abbrev Inv-loop : tie.InvT-loop
 Inv-loop z mask members i₀ i-end i = (i ≤ z .n) × ((k : ℕ) → k < i → visible mask (memberOf (z .celled) members k) ≡ false)
