@@ -14,7 +14,8 @@ use Rattle.metrics.proofs.Laws.{sum-ext}
 use Rattle.pq_params.specs.Bounds.{centersOf}
 use Rattle.pq_params.specs.Codes.{codeAt, codesBelow}
 use Rattle.cell_table.specs.Tables.{Cell, entryAt, tableFinite}
-use Rattle.cell_sums.specs.Sums.{visibleRows, codesSound, sumAt}
+use Rattle.cell_codes.specs.Codes.{visibleRows, codesSound}
+use Rattle.cell_sums.specs.Sums.{sumAt}
 use Rattle.cell_walk.specs.Candidates.{nothingShown, cellFinite, candidates}
 
 -- the cell, with other codes and rows

@@ -149,7 +149,7 @@ below-follows x e s u c = part-below (x .members) (x .n) _ _ (members-below (x .
 -- ---- the bounds and the lengths hold
 
 module _ (x : Index) where
-  bounds-of : badCelled (x .shape) ≡ false → x .n ≤ 100_001 → InBounds x
+  pub bounds-of : badCelled (x .shape) ≡ false → x .n ≤ 100_001 → InBounds x
   bounds-of e f =
       let celled = celled-bounds (x .shape) e in
       let plain = plain-bounds (x .shape .plain) (celled .plain) in

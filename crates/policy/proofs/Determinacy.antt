@@ -1,4 +1,4 @@
--- Each entry point ensures that its outcome is the definition's: so two outcomes that its promise allows are equal.
+-- Two outcomes that a promise allows are equal: by one law for each entry point, and by its own crate's law for a promise that is no equation.
 use Prim.Native.Nat.{ℕ}
 use mathlib.Core.Path.{_≡_, sym, _∙_}
 use mathlib.Core.List.{List}
@@ -12,7 +12,11 @@ use Rattle.cell_walk.specs.Results.{SearchOut}
 use Rattle.plain_train.specs.Outcome as PlainTrain
 use Rattle.plain_search.specs.Outcome as PlainSearch
 use Rattle.celled_check.specs.Check as CelledCheck
+use Rattle.celled_train.specs.Outcome as CelledTrain
 use Rattle.celled_search.specs.Outcome as CelledSearch
+pub use Rattle.lists.proofs.Determinacy.{part-determined}
+pub use Rattle.neighbor.proofs.Determinacy.{placed-once, inserted-once, merged-once, stored-once, last-stored-once}
+pub use Rattle.kmeans_split.proofs.Determinacy.{reached-determined, split-determined}
 
 pub determined {ℓ κ} : {I : Type ℓ} {O : Type κ} (f : I → O) (i : I) (x y : O) → x ≡ f i → y ≡ f i → x ≡ y
 determined f i x y p q = p ∙ sym q
@@ -37,6 +41,9 @@ pub plain-search-determined : (i : PlainSearch.SearchIn) (x y : SearchOut) → x
 plain-search-determined = determined PlainSearch.searchOutcome
 
 -- ---- the celled index
+
+pub celled-training-determined : (i : CelledTrain.TrainIn) (x y : CelledTrain.TrainOut) → x ≡ CelledTrain.trainOutcome i → y ≡ CelledTrain.trainOutcome i → x ≡ y
+celled-training-determined = determined CelledTrain.trainOutcome
 
 pub check-determined : (i : CelledCheck.CheckIn) (x y : CelledCheck.CheckOut) → x ≡ CelledCheck.checkOutcome i → y ≡ CelledCheck.checkOutcome i → x ≡ y
 check-determined = determined CelledCheck.checkOutcome

@@ -1,5 +1,6 @@
 pub mod Standing
 pub mod Check
+pub mod Passing
 pub mod Cells
 pub mod Policy
 pub mod PlainPolicy
@@ -11,3 +12,5 @@ pub mod Determinacy
 pub mod LessZero
 pub mod OneCell
 pub mod OneCellExamples
+pub mod Filled
+pub mod Trained

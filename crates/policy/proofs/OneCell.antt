@@ -23,7 +23,7 @@ use Rattle.pq_params.specs.Bounds.{badPlain}
 use Rattle.pq_params.specs.Lengths.{subsLong}
 use Rattle.pq_params.specs.Refusals.{notLong}
 use Rattle.pq_params.proofs.Refusing.{same-long, search-passed}
-use Rattle.cell_sums.specs.Sums.{codesSound}
+use Rattle.cell_codes.specs.Codes.{codesSound}
 use Rattle.cell_walk.specs.Candidates.{cellFinite, candidates}
 use Rattle.cell_walk.specs.Results.{SearchOut, lentLengths, unchanged, blank}
 use Rattle.celled_lists.specs.Lists.{startsSound, listSound}

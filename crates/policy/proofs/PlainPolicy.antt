@@ -6,7 +6,7 @@ use lib.ListN.{length}
 use Rattle.lists.specs.Lists.{tab}
 use Rattle.lists.proofs.Tables.{length-tab, getD-tab}
 use Rattle.cell_table.specs.Tables.{Cell}
-use Rattle.cell_sums.specs.Sums.{visible, visibleRows}
+use Rattle.cell_codes.specs.Codes.{visible, visibleRows}
 use Rattle.cell_walk.specs.Results.{Lent}
 use Rattle.plain_search.specs.Outcome.{SearchIn, wholeCell, searchWorked, searchRefusal, searchOutcome}
 use Rattle.policy.specs.Sight.{InSight, CodesAlike}

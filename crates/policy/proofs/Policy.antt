@@ -1,64 +1,31 @@
 -- Demand 3: two searches of a celled index that differ in nothing that is visible have one outcome.
-use Prim.Native.Nat.{ℕ, suc, _≤_, _<_}
+use Prim.Native.Nat.{ℕ, _<_}
 use mathlib.Core.Path.{_≡_, refl, sym, _∙_, ap, ap₂, subst}
 use mathlib.Core.Bool.{Bool, true, cond, not}
-use mathlib.Core.List.{List, []}
-use native.Mathlib.Nat.{zero-sub}
+use mathlib.Core.List.{List}
 use native.Mathlib.Decide.{decLt}
 use native.Mathlib.Omega.{arith}
-use lib.ListN.{length, List·getD-eq-default}
-use Rattle.lists.specs.Lists.{part}
+use lib.ListN.{length}
 use Rattle.lists.specs.Tests.{keep}
 use Rattle.lists.proofs.Joins.{join-ext}
-use Rattle.lists.proofs.Rising.{Rises, rises-of}
 use Rattle.lists.proofs.Tests.{and-both, every-of, every-ext}
 use Rattle.neighbor.specs.declared.Candidate.{Candidate}
 use Rattle.pq_params.specs.Codes.{codesBelow}
-use Rattle.cell_sums.specs.Sums.{visible, visibleRows}
+use Rattle.cell_codes.specs.Codes.{visible, visibleRows}
 use Rattle.cell_walk.specs.Candidates.{cellFinite, candidates}
 use Rattle.cell_walk.specs.Results.{Lent, blank, answered}
-use Rattle.celled_lists.specs.Lists.{startOf, listSound}
 use Rattle.celled_lists.specs.Index.{Index}
-use Rattle.celled_check.specs.Check.{checkIn, indexSound}
 use Rattle.celled_search.specs.Search.{Asked, coarseFinite, probed, probedAt, cellAt, cellSound, probedSound, probedCell, probedFinite, allCandidates}
 use Rattle.celled_search.specs.Outcome.{SearchIn, searchIn, searchRefusal, searchWorked, searchOutcome}
-use Rattle.policy.specs.Check.{Passes, StandsIn, listAt, Acceptable}
+use Rattle.policy.specs.Check.{Passes, listAt}
 use Rattle.policy.specs.Sight.{InSight}
 use Rattle.policy.specs.Policy.{SameCells, SameCodes, AlikeInSight}
 use Rattle.policy.proofs.Standing.{keep-from, keep-same}
-use Rattle.policy.proofs.Check.{list-sound, list-below, list-rises, starts-sound, lists-sound, codes-sound, long, check-exact, accepts-exact}
+use Rattle.policy.proofs.Check.{starts-sound, codes-sound, long}
+use Rattle.policy.proofs.Passing.{checked, sound, no-cell, list-of, list-rising, row-below}
 use Rattle.policy.proofs.Cells.{shownAt, same-finite, same-candidates}
 
--- ---- an index that passes the whole check
-
-module _ (x : Index) (passes : Passes x) where
-  pub checked : Acceptable (checkIn x (passes .work))
-  checked = accepts-exact (checkIn x (passes .work)) .0 (passes .accepted)
-
-  pub sound : indexSound x ≡ true
-  sound = check-exact x .1 (checked .order)
-
-  -- a number past the last cell has no rows
-  pub no-cell : (c : ℕ) → x .shape .cells ≤ c → listAt x c ≡ []
-  unfolding part
-  no-cell c h =
-      let e : startOf (x .starts) (suc c) ≡ 0 = List·getD-eq-default (x .starts) 0 (omega (arith, checked .lengths .starts)) in
-      rw (e, zero-sub)
-
-  -- so each number's list is sound
-  pub list-of : (c : ℕ) → listSound (x .n) (listAt x c) ≡ true
-  list-of c = elim (decLt c (x .shape .cells)) [
-    | yes h ↦ lists-sound x sound c h
-    | no h ↦ rw (no-cell c (omega arith)) (list-sound (x .n) [] (λ i k. absurd (omega arith)) (λ i k. absurd (omega arith)))
-  ]
-
-  pub list-rising : (c : ℕ) → Rises 0 (listAt x c)
-  list-rising c = rises-of (listAt x c) 0 (λ h. omega arith) (list-rises (x .n) (listAt x c) (list-of c))
-
-  pub row-below : (c m : ℕ) → StandsIn (listAt x c) m → m < x .n
-  row-below c m s = rw (s .1 .held) at (list-below (x .n) (listAt x c) (list-of c) (s .0) (s .1 .within))
-
--- ---- a search of such an index
+-- ---- a search of an index that passes the whole check
 
 module _ (a : Asked) (passes : Passes (a .index)) where
   in-sight : (c i : ℕ) → i < length (visibleRows (cellAt a c)) → InSight (a .index .n) (a .mask) (shownAt (cellAt a c) i)

@@ -16,7 +16,8 @@ use Rattle.lists.proofs.Parts.{getD-part, within-part}
 use Rattle.lists.proofs.Rising.{Rises, rises-keep}
 use Rattle.neighbor.specs.declared.Candidate.{Candidate}
 use Rattle.neighbor.specs.Neighbor.{comesBefore, insertBy, insertAll, ordered, firstOf, rowOf, blankRow}
-use Rattle.cell_sums.specs.Sums.{visible, visibleRows, sumAt}
+use Rattle.cell_codes.specs.Codes.{visible, visibleRows}
+use Rattle.cell_sums.specs.Sums.{sumAt}
 use Rattle.cell_walk.specs.Candidates.{candidates}
 use Rattle.cell_walk.specs.Results.{Lent, askedOf, unchanged, blank, answered}
 use Rattle.celled_lists.specs.Index.{Index}
@@ -29,7 +30,8 @@ use Rattle.policy.specs.Check.{Passes, HoldsAt, StandsIn, listAt}
 use Rattle.policy.specs.Results.{NoRowTwice}
 use Rattle.policy.proofs.Standing.{in-head, in-tail, in-cases, not-in-nil, rises-from, keep-from}
 use Rattle.policy.proofs.Check.{starts-sound}
-use Rattle.policy.proofs.Policy.{checked, sound, no-cell, list-rising, row-below, undamaged}
+use Rattle.policy.proofs.Passing.{checked, sound, no-cell, list-rising, row-below}
+use Rattle.policy.proofs.Policy.{undamaged}
 
 -- ---- lists in which no row stands twice
 

@@ -81,3 +81,15 @@ pub record Acceptable (i : CheckIn) : Type 0 where
   pub bounds : InBounds (i .index)
   pub lengths : RightLengths (i .index) (i .work)
   pub order : InOrder (i .index)
+
+-- the same index, so many of whose cells a search probes
+abbrev pub probing : Index → ℕ → Index
+probing x probes = record {
+  shape = record { plain = x .shape .plain; cells = x .shape .cells; probes = probes };
+  n = x .n;
+  coarse = x .coarse;
+  starts = x .starts;
+  members = x .members;
+  subs = x .subs;
+  codes = x .codes;
+}

@@ -4,7 +4,7 @@ use mathlib.Core.Path.{_≡_}
 use mathlib.Core.List.{List}
 use mathlib.Core.Bool.{true}
 use Rattle.pq_params.specs.Codes.{codeAt}
-use Rattle.cell_sums.specs.Sums.{visible}
+use Rattle.cell_codes.specs.Codes.{visible}
 
 -- row m, one of n, is visible
 pub record InSight (n : ℕ) (mask : List ℕ) (m : ℕ) : Type 0 where
