@@ -252,8 +252,8 @@ uint32_t bergrosk_celled_check(
 /*
  * Finds the k visible rows whose codes are nearest to a query, among the rows of the cells that it
  * probes. These are so many cells, of those whose centres are nearest to the query, of equal ones
- * the lower; one without rows counts too. Each search may have its own number of probes: more find
- * more of the nearest rows, and take longer; with probes = cells all visible rows are scored.
+ * the lower; one without rows counts too. Each search may have its own number of probes: with more
+ * of them more rows are scored, which takes longer; with probes = cells all visible rows are.
  *
  *   query     d               the query
  *   mask      n               a row is visible where its byte is not 0
