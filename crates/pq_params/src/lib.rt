@@ -5,8 +5,8 @@ ghost use Prim.Native.Nat.{_≤_, min};
 ghost use Rattle.pq_params.specs.Defaults.{plainDefault, celledDefault};
 ghost use Rattle.pq_params.specs.Bounds.{badRange, badPlain, badCelled, badEpochs, tooManyRows, tooManyDraws, tooMuchAsked, centersOf};
 ghost use Rattle.pq_params.specs.Ranges.{widthOf, beginOf, coveredOf, rangesUsed, pairAt, rangesOf};
-ghost use Rattle.pq_params.specs.Lengths.{subsLong, tableLong, refusedPlain, plainLengths, refusedCelled, celledLengths};
-ghost use Rattle.pq_params.specs.Refusals.{anyNotFinite, anyDrawOut};
+ghost use Rattle.pq_params.specs.Lengths.{subsLong, tableLong, plainOf, refusedPlain, plainLengths, celledOf, refusedCelled, celledLengths};
+ghost use Rattle.pq_params.specs.Refusals.{anyNotFinite, anyDrawOut, trainTests, searchTests, checkTests};
 
 // The plain index's parameters.
 #[repr(C)]
@@ -236,6 +236,23 @@ fn refused_plain(number: u32) -> PlainLengths
     }
 }
 
+// The lengths where tests 1 and 3 let the numbers pass.
+fn plain_sizes(s: Shape, n: usize) -> PlainLengths
+    requires { ⌜ (badPlain s ≡ false) × (n ≤ 100_001) ⌝ }
+    ensures { λ r. ⌜ r ≡ plainOf s n ⌝ }
+{
+    let subs = subs_long(s);
+    let table = table_long(s);
+    PlainLengths {
+        number: 0,
+        rows: n * s.d,
+        subs,
+        codes: n * s.nsub,
+        work: n + 1024,
+        table,
+    }
+}
+
 // How long each buffer of a plain index of n rows must be.
 pub fn plain_lengths(s: Shape, n: usize) -> PlainLengths
     ensures { λ r. ⌜ r ≡ plainLengths s n ⌝ }
@@ -246,14 +263,7 @@ pub fn plain_lengths(s: Shape, n: usize) -> PlainLengths
     if too_many_rows(n) {
         return refused_plain(3);
     }
-    PlainLengths {
-        number: 0,
-        rows: n * s.d,
-        subs: subs_long(s),
-        codes: n * s.nsub,
-        work: n + 1024,
-        table: table_long(s),
-    }
+    plain_sizes(s, n)
 }
 
 // The lengths of a celled index's buffers, in elements. The number is 0, or the refusal of the numbers and n; then all lengths are 0.
@@ -287,6 +297,25 @@ fn refused_celled(number: u32) -> CelledLengths
     }
 }
 
+// The lengths where tests 1 and 3 let the numbers pass.
+fn celled_sizes(s: CelledShape, n: usize) -> CelledLengths
+    requires { ⌜ (badCelled s ≡ false) × (n ≤ 100_001) ⌝ }
+    ensures { λ r. ⌜ r ≡ celledOf s n ⌝ }
+{
+    let p = plain_sizes(s.plain, n);
+    CelledLengths {
+        number: 0,
+        rows: p.rows,
+        coarse: s.cells * s.plain.d,
+        starts: s.cells + 1,
+        members: n,
+        subs: s.cells * p.subs,
+        codes: p.codes,
+        work: p.work,
+        table: p.table,
+    }
+}
+
 // How long each buffer of a celled index of n rows must be.
 pub fn celled_lengths(s: CelledShape, n: usize) -> CelledLengths
     ensures { λ r. ⌜ r ≡ celledLengths s n ⌝ }
@@ -297,18 +326,7 @@ pub fn celled_lengths(s: CelledShape, n: usize) -> CelledLengths
     if too_many_rows(n) {
         return refused_celled(3);
     }
-    let p = s.plain;
-    CelledLengths {
-        number: 0,
-        rows: n * p.d,
-        coarse: s.cells * p.d,
-        starts: s.cells + 1,
-        members: n,
-        subs: s.cells * subs_long(p),
-        codes: n * p.nsub,
-        work: n + 1024,
-        table: table_long(p),
-    }
+    celled_sizes(s, n)
 }
 
 // Whether a coordinate of a row or of a query is not finite: refusal 6.
@@ -329,4 +347,67 @@ pub fn any_draw_out(draws: &[f64]) -> bool
         }
     }
     false
+}
+
+// The tests of a training, of which the caller made 1 and 4: the number of the first that refuses, or 0.
+pub fn train_refusal(bad: bool, n: usize, wrong: bool, rows: &[f32], draws: &[f64]) -> u32
+    ensures { λ r. ⌜ r ≡ trainTests bad n wrong (now (rows .entry)) (now (draws .entry)) ⌝ }
+{
+    if bad {
+        return 1;
+    }
+    if n == 0 {
+        return 2;
+    }
+    if too_many_rows(n) {
+        return 3;
+    }
+    if wrong {
+        return 4;
+    }
+    if any_not_finite(rows) {
+        return 6;
+    }
+    if any_draw_out(draws) {
+        return 7;
+    }
+    0
+}
+
+// The tests of a search for k places, of which the caller made 1 and 4: the number of the first that refuses, or 0.
+pub fn search_refusal(bad: bool, n: usize, wrong: bool, k: usize, query: &[f32]) -> u32
+    ensures { λ r. ⌜ r ≡ searchTests bad n wrong k (now (query .entry)) ⌝ }
+{
+    if bad {
+        return 1;
+    }
+    if too_many_rows(n) {
+        return 3;
+    }
+    if wrong {
+        return 4;
+    }
+    if too_much_asked(k) {
+        return 5;
+    }
+    if any_not_finite(query) {
+        return 6;
+    }
+    0
+}
+
+// The tests of the whole check, of which the caller made 1 and 4: the number of the first that refuses, or 0.
+pub fn check_refusal(bad: bool, n: usize, wrong: bool) -> u32
+    ensures { λ r. ⌜ r ≡ checkTests bad n wrong ⌝ }
+{
+    if bad {
+        return 1;
+    }
+    if too_many_rows(n) {
+        return 3;
+    }
+    if wrong {
+        return 4;
+    }
+    0
 }

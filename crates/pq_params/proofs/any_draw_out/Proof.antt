@@ -5,16 +5,13 @@ use Rattle.lists.proofs.Tests.{every-of, every-false}
 use lib.Ieee.{nan}
 use borrow.Author.Tests.{not-true, not-false}
 use borrow.Author.Count.{below-more}
-use mathlib.Core.Bool.{true, false, not}
-use Prim.Native.Nat.{ℕ, suc, _+_, _*_, _-_, _≤_, _<_}
-use mathlib.Core.Path.{_≡_, refl, sym, _∙_, ap}
+use mathlib.Core.Bool.{true, not}
+use Prim.Native.Nat.{ℕ, _-_, _≤_, _<_}
+use mathlib.Core.Path.{_≡_, sym, ap}
 use native.Mathlib.Omega.{arith}
-use native.Mathlib.Numerals.{add-one}
-use lib.ListN.{length, getD, drop, take}
+use lib.ListN.{length, getD}
 use Rattle.pq_params.proofs.any_draw_out.Statement.{statement}
 use Rattle.pq_params.proofs.any_draw_out.Tie as tie
-use Rattle.pq_params.proofs.any_draw_out.Reads as reads
-use Rattle.pq_params.proofs.any_draw_out.Lts as lts
 
 abbrev Inv-loop : tie.InvT-loop
 Inv-loop draws i₀ i-end i = (i ≤ length draws) × ((k : ℕ) → k < i → inDrawRange (getD draws k nan) ≡ true)
@@ -25,21 +22,9 @@ abbrev μ-loop : tie.MeasureT-loop
 loop-holds : tie.Need-loop-holds Inv-loop μ-loop
 loop-holds c = (search needs, λ i h. absurd (omega arith))
 
-mul-d : tie.Need-mul-d Inv-loop μ-loop
-mul-d c = search needs
-
-shared-slice-read-d : tie.Need-shared-slice-read-d Inv-loop μ-loop
-shared-slice-read-d c = search needs
-
 returns : tie.Need-returns Inv-loop μ-loop
 unfolding anyDrawOut
 returns c = sym (ap not (every-false _ _ (c .before .before .before .loop .i) (search needs) (not-true _ (c .if1 .taken))))
-
-add-i : tie.Need-add-i Inv-loop μ-loop
-add-i c = search needs
-
-loop-less : tie.Need-loop-less Inv-loop μ-loop
-loop-less c = search needs
 
 loop-again : tie.Need-loop-again Inv-loop μ-loop
 loop-again c = (search needs, below-more _ _ (c .before .before .before .loop .inv .1) (not-false _ (c .if1 .left)))
@@ -55,10 +40,10 @@ any-draw-out-spec =
     Inv-loop
     μ-loop
     loop-holds
-    mul-d
-    shared-slice-read-d
+    (λ c. search needs)
+    (λ c. search needs)
     returns
-    add-i
-    loop-less
+    (λ c. search needs)
+    (λ c. search needs)
     loop-again
     returns-2)

@@ -2,19 +2,13 @@
 use borrow.Author.Needs.{needs}
 use Rattle.pq_params.specs.Refusals.{anyNotFinite}
 use mathlib.Core.Bool.{not}
-use mathlib.Core.Path.{_≡_, ap}
+use mathlib.Core.Path.{ap}
 use Rattle.pq_params.proofs.any_not_finite.Statement.{statement}
 use Rattle.pq_params.proofs.any_not_finite.Tie as tie
-use Rattle.pq_params.proofs.any_not_finite.Reads as reads
-use Rattle.pq_params.proofs.any_not_finite.Lts as lts
-use Rattle.metrics.proofs.all_finite.Reads as all-finite-reads
-
-all-finite-requires : tie.Need-all-finite-requires
-all-finite-requires c κs = search needs
 
 returns : tie.Need-returns
 unfolding anyNotFinite
 returns c = ap not (c .all-finite .ensures)
 
 pub any-not-finite-spec : {M : Type 1} → statement M
-any-not-finite-spec = tie.close (tie.spec all-finite-requires returns)
+any-not-finite-spec = tie.close (tie.spec (λ c κs. search needs) returns)

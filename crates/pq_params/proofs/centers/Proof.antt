@@ -6,11 +6,8 @@ use Rattle.pq_params.proofs.Bounds.{centers-most}
 use Rattle.pq_params.proofs.centers.Statement.{statement}
 use Rattle.pq_params.proofs.centers.Tie as tie
 
-shl-result : tie.Need-shl-result
-shl-result c = search needs
-
 returns : tie.Need-returns
 returns c = rw one-mul (mod-eq-of-lt (omega (arith, centers-most (c .args .bits) (c .pre))))
 
 pub centers-spec : {M : Type 1} → statement M
-centers-spec = tie.close (tie.spec shl-result returns)
+centers-spec = tie.close (tie.spec (λ c. search needs) returns)

@@ -9,9 +9,6 @@ use Rattle.pq_params.proofs.RangeRule.{Used, used-of, pair-used, pair-u
 use Rattle.pq_params.proofs.range_at.Statement.{statement}
 use Rattle.pq_params.proofs.range_at.Tie as tie
 
-ranges-used-requires : tie.Need-ranges-used-requires
-ranges-used-requires c κs = search needs
-
 -- in the first arm place i is used
 used : (c : tie.Then1) → Used (c .before .before .args .d) (c .before .before .args .nsub) (c .before .before .args .i)
 used c = used-of _ _ _ (rw (c .before .ranges-used .ensures) at (c .if1 .taken))
@@ -43,7 +40,7 @@ pub range-at-spec : {M : Type 1} → statement M
 range-at-spec =
     tie.close
     (tie.spec
-    ranges-used-requires
+    (λ c κs. search needs)
     range-begin-requires
     range-width-requires
     add-end

@@ -18,9 +18,6 @@ mul-result c =
 rem-least : tie.Need-rem-least
 rem-least c = omega (arith, short-some (c .args .d) (c .args .nsub) (c .pre .0))
 
-least-requires : tie.Need-least-requires
-least-requires c κs = search needs
-
 add-result : tie.Need-add-result
 add-result c =
     let a = c .before .args in
@@ -32,4 +29,4 @@ returns c = rw (c .least .ensures) (sym (begin-at _ _ _))
 
 pub range-begin-spec : {M : Type 1} → statement M
 range-begin-spec =
-    tie.close (tie.spec div-sub-dimension mul-result rem-least least-requires add-result returns)
+    tie.close (tie.spec div-sub-dimension mul-result rem-least (λ c κs. search needs) add-result returns)

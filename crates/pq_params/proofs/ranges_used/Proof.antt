@@ -4,9 +4,6 @@ use mathlib.Core.Path.{sym, _∙_}
 use Rattle.pq_params.proofs.ranges_used.Statement.{statement}
 use Rattle.pq_params.proofs.ranges_used.Tie as tie
 
-bad-range-requires : tie.Need-bad-range-requires
-bad-range-requires c κs = search needs
-
 returns : tie.Need-returns
 returns c = rw (sym (c .before .bad-range .ensures) ∙ c .if1 .taken)
 
@@ -14,4 +11,4 @@ returns-2 : tie.Need-returns-2
 returns-2 c = rw (sym (c .before .bad-range .ensures) ∙ c .if1 .left)
 
 pub ranges-used-spec : {M : Type 1} → statement M
-ranges-used-spec = tie.close (tie.spec bad-range-requires returns returns-2)
+ranges-used-spec = tie.close (tie.spec (λ c κs. search needs) returns returns-2)

@@ -1,22 +1,22 @@
-use borrow.Author.Needs.{needs}
+-- `subs_long`: K is at most 256 and C at most D.
+use Prim.Native.Nat.{_≤_}
+use native.Mathlib.Omega.{arith}
+use lib.Dec.{lit<}
+use Rattle.pq_params.proofs.Numbers.{numbers, fits-mul}
 use Rattle.pq_params.proofs.subs_long.Statement.{statement}
 use Rattle.pq_params.proofs.subs_long.Tie as tie
-use Rattle.pq_params.proofs.subs_long.Reads as reads
-use Rattle.pq_params.proofs.subs_long.Lts as lts
-use Rattle.pq_params.proofs.centers.Reads as centers-reads
-use Rattle.pq_params.proofs.covered.Reads as covered-reads
-
-centers-requires : tie.Need-centers-requires
-centers-requires c κs = search needs
-
-covered-requires : tie.Need-covered-requires
-covered-requires c κs = search needs
 
 mul-result : tie.Need-mul-result
-mul-result c = search needs
+mul-result c =
+    let s = numbers (c .before .before .args .s) (c .before .before .pre) in
+    let k : c .before .centers .result ≤ 256 = rw (c .before .centers .ensures) (s .centers-most) in
+    let v : c .covered .result ≤ 256 = rw (c .covered .ensures) (omega (arith, s .covered-within, s .d-most)) in
+    fits-mul (c .before .centers .result) (c .covered .result) k v (lit< tt)
 
 returns : tie.Need-returns
-returns c = search needs
+returns c = rw (c .before .centers .ensures, c .covered .ensures)
 
 pub subs-long-spec : {M : Type 1} → statement M
-subs-long-spec = tie.close (tie.spec centers-requires covered-requires mul-result returns)
+subs-long-spec =
+    tie.close
+    (tie.spec (λ c κs. numbers (c .args .s) (c .pre) .bits-most) (λ c κs. numbers (c .before .args .s) (c .before .pre) .range) mul-result returns)

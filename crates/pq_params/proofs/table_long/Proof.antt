@@ -1,18 +1,18 @@
-use borrow.Author.Needs.{needs}
+-- `table_long`: n_sub is at most 64 and K at most 256.
+use Prim.Native.Nat.{_≤_}
+use lib.Dec.{lit<}
+use Rattle.pq_params.proofs.Numbers.{numbers, fits-mul}
 use Rattle.pq_params.proofs.table_long.Statement.{statement}
 use Rattle.pq_params.proofs.table_long.Tie as tie
-use Rattle.pq_params.proofs.table_long.Reads as reads
-use Rattle.pq_params.proofs.table_long.Lts as lts
-use Rattle.pq_params.proofs.centers.Reads as centers-reads
-
-centers-requires : tie.Need-centers-requires
-centers-requires c κs = search needs
 
 mul-result : tie.Need-mul-result
-mul-result c = search needs
+mul-result c =
+    let s = numbers (c .before .before .args .s) (c .before .before .pre) in
+    let k : c .before .centers .result ≤ 256 = rw (c .before .centers .ensures) (s .centers-most) in
+    fits-mul _ (c .before .centers .result) (s .nsub-most) k (lit< tt)
 
 returns : tie.Need-returns
-returns c = search needs
+returns c = rw (c .before .centers .ensures)
 
 pub table-long-spec : {M : Type 1} → statement M
-table-long-spec = tie.close (tie.spec centers-requires mul-result returns)
+table-long-spec = tie.close (tie.spec (λ c κs. numbers (c .args .s) (c .pre) .bits-most) mul-result returns)
