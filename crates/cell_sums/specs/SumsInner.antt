@@ -1,0 +1,106 @@
+-- What the codes test and the summing of a cell's rows promise to one another and to the walk, in terms of n_sub and K.
+use Prim.Native.Nat.{ℕ, zero, suc, _+_, _*_, _≤_, _<_}
+use mathlib.Core.Path.{_≡_}
+use mathlib.Core.Bool.{Bool, true, cond}
+use mathlib.Core.List.{List, _++_}
+use lib.ListN.{length, drop, getD, set}
+use lib.Dec.{ltb}
+use lib.Ieee.{Float, nan, binary32, add}
+use Rattle.lists.specs.Lists.{tab, memberOf}
+use Rattle.lists.specs.Tests.{every}
+use Rattle.metrics.specs.declared.Worked.{Worked}
+use Rattle.metrics.specs.declared.Worked.the-variants.{Finite, NotFinite}
+use Rattle.metrics.specs.Distance.{zero32, sumTo, finiteIn}
+use Rattle.cell_table.specs.declared.CellNumbers.{CellNumbers}
+use Rattle.cell_table.specs.TablesInner.{markNumber}
+use Rattle.cell_sums.specs.declared.Four.{Four}
+use Rattle.cell_sums.specs.Sums.{visible, codeAt}
+
+-- ---- the codes test
+
+abbrev pub numberAt : List ℕ → ℕ → ℕ
+numberAt l i = getD l i 0
+
+-- the larger of two numbers
+abbrev pub largerOf : ℕ → ℕ → ℕ
+largerOf a b = cond (ltb a b) b a
+
+-- the highest of g 0, .., g (n - 1), or 0
+unfoldable pub highestOf : (ℕ → ℕ) → ℕ → ℕ
+highestOf g zero = 0
+highestOf g (suc n) = largerOf (highestOf g n) (g n)
+
+-- whether the codes of row m are below K
+abbrev pub codeUnder : List ℕ → ℕ → ℕ → ℕ → ℕ → Bool
+codeUnder codes nsub centers m s = ltb (codeAt codes nsub m s) centers
+
+abbrev pub codesUnder : List ℕ → ℕ → ℕ → ℕ → Bool
+codesUnder codes nsub centers m = every (codeUnder codes nsub centers m) nsub
+
+-- f of the shown rows alone
+abbrev pub unless : (ℕ → Bool) → (ℕ → Bool) → ℕ → Bool
+unless shown f m = cond (shown m) (f m) true
+
+-- whether row m is hidden or its codes are below K; the same of the i-th row of a cell
+abbrev pub rowSound : List ℕ → List ℕ → ℕ → ℕ → ℕ → Bool
+rowSound mask codes nsub centers = unless (visible mask) (codesUnder codes nsub centers)
+
+abbrev pub soundAt : CellNumbers → List ℕ → List ℕ → ℕ → List ℕ → ℕ → Bool
+soundAt z mask codes centers members i = rowSound mask codes (z .shape .nsub) centers (memberOf (z .celled) members i)
+
+-- a cell's rows: each has a mask byte and codes
+pub record Rows (z : CellNumbers) (mask codes members : List ℕ) : Type 0 where
+  pub mask-few : length mask ≤ 100_001
+  pub few : z .n ≤ 100_001
+  pub codes-long : length codes ≡ length mask * z .shape .nsub
+  pub listed-long : z .celled ≡ true → z .n ≤ length members
+  pub inside : (i : ℕ) → i < z .n → memberOf (z .celled) members i < length mask
+
+-- ---- sums
+
+-- a row's sum, by the table
+abbrev pub tableTerm : List Float → List ℕ → ℕ → ℕ → ℕ → ℕ → Float
+tableTerm table codes nsub centers m s = getD table (s * centers + codeAt codes nsub m s) nan
+
+abbrev pub tableSum : List Float → List ℕ → ℕ → ℕ → ℕ → Float
+tableSum table codes nsub centers m = sumTo (tableTerm table codes nsub centers m) nsub
+
+-- what the sum of row m is worked from: its codes are there and below K, and the table has an entry for each
+pub record Coded (codes : List ℕ) (table : List Float) (nsub centers m : ℕ) : Type 0 where
+  pub codes-held : m * nsub + nsub ≤ length codes
+  pub table-long : length table ≡ nsub * centers
+  pub under : codesUnder codes nsub centers m ≡ true
+
+-- four rows, and f of each
+abbrev pub fourOf : (ℕ → Float) → ℕ → ℕ → ℕ → ℕ → Four
+fourOf f m0 m1 m2 m3 = record { a = f m0; b = f m1; c = f m2; d = f m3 }
+
+-- one term more in each of four sums
+abbrev pub fourMore : Four → Four → Four
+fourMore v t = record {
+  a = add binary32 (v .a) (t .a);
+  b = add binary32 (v .b) (t .b);
+  c = add binary32 (v .c) (t .c);
+  d = add binary32 (v .d) (t .d);
+}
+
+-- four values stored from place j on
+abbrev pub fourStored : List Float → ℕ → Four → List Float
+fourStored l j v = set (set (set (set l j (v .a)) (j + 1) (v .b)) (j + 2) (v .c)) (j + 3) (v .d)
+
+-- f of the row at place i of the picked ones
+abbrev pub pickedAt : (ℕ → Float) → List ℕ → ℕ → Float
+pickedAt f picked i = f (getD picked i 0)
+
+-- each of the first n picked rows has its codes
+abbrev pub AllCoded : List ℕ → List Float → ℕ → ℕ → List ℕ → ℕ → Type 0
+AllCoded codes table nsub centers picked n = (i : ℕ) → i < n → Coded codes table nsub centers (getD picked i 0)
+
+-- n sums as one worked distance: the mark, if one of them is not finite
+abbrev pub workedAll : List Float → ℕ → Worked
+workedAll sums n = cond (every (finiteIn sums) n) (Finite zero32) NotFinite
+
+-- the sums f of the first n picked rows stand in a run, and all are tested
+pub record Summed (f : ℕ → Float) (picked : List ℕ) (n : ℕ) (sums sums' : List Float) (r : ℕ) : Type 0 where
+  pub answer : r ≡ markNumber (every (finiteIn sums') n)
+  pub sums-are : sums' ≡ tab (pickedAt f picked) n ++ drop n sums
