@@ -6,7 +6,7 @@ use lib.ListN.{length}
 use lib.Dec.{eqb}
 use lib.Ieee.{Float}
 use Rattle.pq_params.specs.declared.CelledShape.{CelledShape}
-use Rattle.pq_params.specs.Lengths.{celledOf}
+use Rattle.pq_params.specs.Lengths.{celledLengths}
 use Rattle.celled_lists.specs.declared.IndexLengths.{IndexLengths}
 
 pub record Index : Type 0 where
@@ -33,14 +33,14 @@ lengthsOf x = record {
   codes = length (x .codes);
 }
 
--- test 4 on these lengths
+-- test 4 on these lengths: a buffer not of its length
 abbrev pub lengthTests : CelledShape → ℕ → IndexLengths → List Bool
 lengthTests s n l =
-    not (eqb (l .coarse) (celledOf s n .coarse))
-    ∷ not (eqb (l .starts) (celledOf s n .starts))
-    ∷ not (eqb (l .members) (celledOf s n .members))
-    ∷ not (eqb (l .subs) (celledOf s n .subs))
-    ∷ not (eqb (l .codes) (celledOf s n .codes))
+    not (eqb (l .coarse) (celledLengths s n .coarse))
+    ∷ not (eqb (l .starts) (celledLengths s n .starts))
+    ∷ not (eqb (l .members) (celledLengths s n .members))
+    ∷ not (eqb (l .subs) (celledLengths s n .subs))
+    ∷ not (eqb (l .codes) (celledLengths s n .codes))
     ∷ []
 
 abbrev pub indexLengths : Index → List Bool

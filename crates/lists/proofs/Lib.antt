@@ -6,3 +6,6 @@ pub mod Tests
 pub mod Counting
 pub mod Rising
 pub mod Examples
+pub mod Walks
+pub mod Counts
+pub mod Kept

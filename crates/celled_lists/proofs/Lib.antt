@@ -1,0 +1,4 @@
+pub mod Lengths
+pub mod Starts
+pub mod CellLists
+pub mod FillingInner
