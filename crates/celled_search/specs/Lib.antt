@@ -1,3 +1,4 @@
 pub mod Search
 pub mod Outcome
+pub mod StubCells
 pub mod SearchInner

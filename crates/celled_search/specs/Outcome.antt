@@ -2,14 +2,13 @@
 use Prim.Native.Nat.{ℕ}
 use mathlib.Core.List.{List, [], _∷_, _++_}
 use mathlib.Core.Bool.{Bool, cond, not}
-use lib.ListN.{length}
 use lib.Dec.{eqb}
 use lib.Ieee.{Float}
 use Rattle.lists.specs.Tests.{anyOf}
 use Rattle.pq_params.specs.declared.CelledShape.{CelledShape}
 use Rattle.pq_params.specs.Bounds.{badCelled}
 use Rattle.pq_params.specs.Refusals.{notLong, searchTests}
-use Rattle.celled_lists.specs.Index.{Index, indexLengths}
+use Rattle.celled_lists.specs.Index.{indexOf, indexLengths}
 use Rattle.cell_walk.specs.Results.{Lent, SearchOut, askedOf, lentLengths, unchanged, blank, answered}
 use Rattle.celled_search.specs.Search.{Asked, startsGood, coarseFinite, probedSound, probedFinite, allCandidates}
 
@@ -18,8 +17,9 @@ pub record SearchIn : Type 0 where
   pub lent : Lent
 
 -- what a promise builds of the inputs
-abbrev pub asking : Index → List Float → List ℕ → Asked
-asking index query mask = record { index = index; query = query; mask = mask }
+abbrev pub asking : CelledShape → ℕ → List Float → List ℕ → List Float → List ℕ → List ℕ → List Float → List ℕ → Asked
+asking s n query mask coarse starts members subs codes =
+    record { index = indexOf s n coarse starts members subs codes; query = query; mask = mask }
 
 abbrev pub searchIn : Asked → Lent → SearchIn
 searchIn a l = record { asked = a; lent = l }

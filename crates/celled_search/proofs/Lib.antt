@@ -1,0 +1,4 @@
+pub mod ProbedLists
+pub mod ProbedCells
+pub mod ProbedWalk
+pub mod SearchOutcome

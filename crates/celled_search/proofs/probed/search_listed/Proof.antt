@@ -1,0 +1,49 @@
+-- `search_listed`: the cell that is searched is the definition's.
+use borrow.Author.Needs.{needs}
+use mathlib.Core.Path.{sym, _∙_}
+use Rattle.celled_search.specs.Search.{Asked}
+use Rattle.celled_search.specs.Outcome.{asking}
+use Rattle.celled_search.proofs.ProbedCells.{cell-is, cell-searched}
+use Rattle.celled_search.proofs.probed.search_listed.Statement.{statement}
+use Rattle.celled_search.proofs.probed.search_listed.Tie as tie
+use Rattle.celled_search.proofs.probed.search_listed.Reads as reads
+use Rattle.celled_search.proofs.probed.search_listed.Lts as lts
+use Rattle.celled_search.proofs.probed.cell_list.Reads as cell-list-reads
+use Rattle.celled_search.proofs.stub.search_cell.Reads as search-cell-reads
+
+abbrev asked-of : tie.Start → Asked
+asked-of c = let a = c .args in asking (a .s) (a .n) (a .query .now) (a .mask .now) (a .coarse .now) (a .starts .now) (a .members .now) (a .subs .now) (a .codes .now)
+
+cell-list-requires : tie.Need-cell-list-requires
+cell-list-requires c κs =
+    let w = c .before .before .before .before .before .before .before .before .before .before .pre .0 in
+    (w .ready .starts-long, rw (w .ready .members-long) (w .starts-good), w .cell-in)
+
+search-cell-requires : tie.Need-search-cell-requires
+search-cell-requires c κs =
+    let p = c .before .before .before .before .before .before .before .before .before .before .before .before .before .before .before .pre in
+    (cell-searched (asked-of (c .before .before .before .before .before .before .before .before .before .before .before .before .before .before .before)) _ _ (c .before .before .before .before .cell-list .ensures .is) _ (p .0), p .1)
+
+same-length : tie.Need-same-length
+same-length c = search needs
+
+same-length-2 : tie.Need-same-length-2
+same-length-2 c = search needs
+
+same-length-3 : tie.Need-same-length-3
+same-length-3 c = search needs
+
+returns : tie.Need-returns
+returns c =
+    rw (cell-is (asked-of (c .before .before .before .before .before .before .before .before .before .before .before .before .before .before .before .before .before .before .before .before .before .before)) _ _ (c .before .before .before .before .before .before .before .before .before .before .before .cell-list .ensures .is)) at (c .before .before .before .before .before .before .search-cell .ensures)
+
+pub search-listed-spec : {M : Type 1} → statement M
+search-listed-spec =
+    tie.close
+    (tie.spec
+    cell-list-requires
+    search-cell-requires
+    same-length
+    same-length-2
+    same-length-3
+    returns)
