@@ -14,6 +14,7 @@ use Rattle.metrics.specs.Distance.{zero32, sumTo, finiteIn}
 use Rattle.cell_table.specs.declared.CellNumbers.{CellNumbers}
 use Rattle.cell_table.specs.TablesInner.{markNumber}
 use Rattle.cell_sums.specs.declared.Four.{Four}
+use Rattle.cell_sums.specs.declared.FourRows.{FourRows}
 use Rattle.cell_sums.specs.Sums.{visible, codeAt}
 
 -- ---- the codes test
@@ -48,13 +49,17 @@ rowSound mask codes nsub centers = unless (visible mask) (codesUnder codes nsub 
 abbrev pub soundAt : CellNumbers → List ℕ → List ℕ → ℕ → List ℕ → ℕ → Bool
 soundAt z mask codes centers members i = rowSound mask codes (z .shape .nsub) centers (memberOf (z .celled) members i)
 
--- a cell's rows: each has a mask byte and codes
-pub record Rows (z : CellNumbers) (mask codes members : List ℕ) : Type 0 where
+-- a cell's rows: their numbers are there, and each has a mask byte
+pub record Numbered (z : CellNumbers) (mask members : List ℕ) : Type 0 where
   pub mask-few : length mask ≤ 100_001
   pub few : z .n ≤ 100_001
-  pub codes-long : length codes ≡ length mask * z .shape .nsub
   pub listed-long : z .celled ≡ true → z .n ≤ length members
   pub inside : (i : ℕ) → i < z .n → memberOf (z .celled) members i < length mask
+
+-- and each has codes
+pub record Rows (z : CellNumbers) (mask codes members : List ℕ) : Type 0 where
+  pub numbered : Numbered z mask members
+  pub codes-long : length codes ≡ length mask * z .shape .nsub
 
 -- ---- sums
 
@@ -71,9 +76,20 @@ pub record Coded (codes : List ℕ) (table : List Float) (nsub centers m : ℕ) 
   pub table-long : length table ≡ nsub * centers
   pub under : codesUnder codes nsub centers m ≡ true
 
--- four rows, and f of each
-abbrev pub fourOf : (ℕ → Float) → ℕ → ℕ → ℕ → ℕ → Four
-fourOf f m0 m1 m2 m3 = record { a = f m0; b = f m1; c = f m2; d = f m3 }
+-- sub-space s of row m
+abbrev pub termAt : List Float → List ℕ → ℕ → ℕ → ℕ → ℕ → Float
+termAt table codes nsub centers s m = tableTerm table codes nsub centers m s
+
+-- four rows, and f of each; four places from j on
+abbrev pub FourCoded : List ℕ → List Float → ℕ → ℕ → FourRows → Type 0
+FourCoded codes table nsub centers m =
+    Coded codes table nsub centers (m .a) × Coded codes table nsub centers (m .b) × Coded codes table nsub centers (m .c) × Coded codes table nsub centers (m .d)
+
+abbrev pub fourOf : (ℕ → Float) → FourRows → Four
+fourOf f m = record { a = f (m .a); b = f (m .b); c = f (m .c); d = f (m .d) }
+
+abbrev pub fourFrom : ℕ → FourRows
+fourFrom j = record { a = j; b = j + 1; c = j + 2; d = j + 3 }
 
 -- one term more in each of four sums
 abbrev pub fourMore : Four → Four → Four
@@ -96,9 +112,9 @@ pickedAt f picked i = f (getD picked i 0)
 abbrev pub AllCoded : List ℕ → List Float → ℕ → ℕ → List ℕ → ℕ → Type 0
 AllCoded codes table nsub centers picked n = (i : ℕ) → i < n → Coded codes table nsub centers (getD picked i 0)
 
--- n sums as one worked distance: the mark, if one of them is not finite
-abbrev pub workedAll : List Float → ℕ → Worked
-workedAll sums n = cond (every (finiteIn sums) n) (Finite zero32) NotFinite
+-- sums as one worked distance: the mark, if one of them is not finite
+abbrev pub workedAll : List Float → Worked
+workedAll sums = cond (every (finiteIn sums) (length sums)) (Finite zero32) NotFinite
 
 -- the sums f of the first n picked rows stand in a run, and all are tested
 pub record Summed (f : ℕ → Float) (picked : List ℕ) (n : ℕ) (sums sums' : List Float) (r : ℕ) : Type 0 where

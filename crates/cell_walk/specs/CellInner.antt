@@ -1,15 +1,15 @@
 -- What the search in one cell promises to a search that goes from cell to cell: it begins with results that hold the candidates of the cells before.
-use Prim.Native.Nat.{ℕ, _≤_, _<_}
+use Prim.Native.Nat.{ℕ}
 use mathlib.Core.Path.{_≡_}
 use mathlib.Core.List.{List, _++_, map}
 use mathlib.Core.Bool.{true, cond}
 use lib.ListN.{length, take, drop}
 use lib.Ieee.{Float}
 use Rattle.answers.specs.declared.Searched.the-variants.{Done}
-use Rattle.lists.specs.Lists.{grid, memberOf}
+use Rattle.lists.specs.Lists.{grid}
 use Rattle.neighbor.specs.declared.Candidate.{Candidate}
 use Rattle.neighbor.specs.Neighbor.{comesBefore, insertAll, rowOf, sumOf}
-use Rattle.neighbor.specs.Held.{held, Held}
+use Rattle.neighbor.specs.Held.{held}
 use Rattle.pq_params.specs.Bounds.{centersOf}
 use Rattle.cell_table.specs.declared.CellNumbers.{CellNumbers}
 use Rattle.cell_table.specs.Tables.{Cell, queryFor, entryAt}
