@@ -1,6 +1,6 @@
 -- Laws on the lists of the probed cells: which part of the members each is, and what the tests of lists and codes leave of it.
 use Prim.Native.Nat.{ℕ, suc, _+_, _-_, _≤_, _<_}
-use mathlib.Core.Path.{_≡_, refl, sym, _∙_, ap}
+use mathlib.Core.Path.{_≡_, refl, _∙_, ap}
 use mathlib.Core.Bool.{Bool, true, false}
 use mathlib.Core.List.{List}
 use native.Mathlib.Numerals.{add-one}
@@ -9,7 +9,6 @@ use borrow.Author.Tests.{ltb-true}
 use lib.ListN.{length, take, drop, getD}
 use lib.Seq.{take-all}
 use Rattle.lists.specs.Lists.{part, Part}
-use Rattle.lists.specs.Tests.{every, rising}
 use Rattle.lists.proofs.Parts.{length-part}
 use Rattle.lists.proofs.Tables.{tab-getD}
 use Rattle.lists.proofs.Tests.{and-l, every-true}
@@ -53,11 +52,13 @@ module _ (s : CelledShape) (n : ℕ) (mask starts members codes : List ℕ) (l :
     -- a sound list's rows have mask bytes and codes
     pub list-rows : listSound n list ≡ true → Rows (numbersOf (s .plain) c list) mask codes list
     list-rows t = record {
-      mask-few = rw (l .mask-long) (l .few);
-      few = rw e (omega (arith, list-few, l .few));
+      numbered = record {
+        mask-few = rw (l .mask-long) (l .few);
+        few = rw e (omega (arith, list-few, l .few));
+        listed-long = λ w. omega arith;
+        inside = λ i k. rw (l .mask-long) (list-below n list t i k);
+      };
       codes-long = rw (l .mask-long) (l .codes-long);
-      listed-long = λ w. omega arith;
-      inside = λ i k. rw (l .mask-long) (list-below n list t i k);
     }
 
     -- the test of a cell: its list, and then the codes of its rows

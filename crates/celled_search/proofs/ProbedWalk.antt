@@ -1,8 +1,8 @@
 -- Cell after cell: the results hold the first k of the candidates of the cells passed, and at the end of all.
 use Prim.Native.Nat.{ℕ, _+_, _*_, _≤_, _<_}
-use mathlib.Core.Path.{_≡_, refl, sym, _∙_, ap}
-use mathlib.Core.Bool.{Bool, true, false, cond, not}
-use mathlib.Core.List.{List, [], _++_}
+use mathlib.Core.Path.{_≡_, refl, sym, _∙_}
+use mathlib.Core.Bool.{Bool, true, false}
+use mathlib.Core.List.{List, _++_}
 use native.Mathlib.Nat.{suc-mul}
 use native.Mathlib.Numerals.{add-one}
 use native.Mathlib.Omega.{arith}
@@ -17,11 +17,11 @@ use Rattle.metrics.specs.Distance.{zero32}
 use Rattle.neighbor.specs.declared.Candidate.{Candidate}
 use Rattle.neighbor.specs.Neighbor.{firstOf}
 use Rattle.cell_walk.specs.Candidates.{cellFinite, candidates}
-use Rattle.cell_walk.specs.Results.{Lent, lent, SearchOut, searchOut, askedOf}
+use Rattle.cell_walk.specs.Results.{Lent, lent, searchOut, askedOf}
 use Rattle.cell_walk.specs.CellInner.{cellOutcome}
 use Rattle.celled_search.specs.Search.{Asked, probed, membersAt, probedCell, probedAt, probedFinite, allCandidates}
 use Rattle.celled_search.specs.SearchInner.{Blank, probedOutcome}
-use Rattle.celled_search.specs.StubCells.{Holding, Next, Laws}
+use Rattle.celled_search.specs.StubCells.{Holding, Laws}
 
 module _ (a : Asked) where
   -- the candidates of the first p probed cells

@@ -1,15 +1,18 @@
 -- Laws on the celled search as a whole: what its tests leave where none refuses, and that its ends are those of the definition.
 use Prim.Native.Nat.{ℕ}
-use mathlib.Core.Path.{_≡_, refl, sym, _∙_, ap}
-use mathlib.Core.Bool.{Bool, true, false, cond, not}
+use mathlib.Core.Path.{_≡_, sym, _∙_, ap}
+use mathlib.Core.Bool.{Bool, true, false}
 use mathlib.Core.List.{List, [], _∷_, _++_}
 use borrow.Author.Tests.{ne-eqb, le-ltb}
 use lib.ListN.{length}
-use lib.Dec.{eqb}
+use lib.Ieee.{Float}
+use Rattle.answers.specs.declared.Searched.{Searched}
 use Rattle.answers.specs.declared.Searched.the-variants.{Refused}
+use Rattle.lists.specs.Lists.{fill}
+use Rattle.metrics.specs.Distance.{zero32}
 use Rattle.lists.specs.Tests.{anyOf}
 use Rattle.lists.proofs.Tests.{none}
-use Rattle.pq_params.specs.Bounds.{badCelled, tooManyRows}
+use Rattle.pq_params.specs.Bounds.{badCelled}
 use Rattle.pq_params.specs.Lengths.{celledOf, celledLengths, tableLong}
 use Rattle.pq_params.specs.Refusals.{notLong, searchTests}
 use Rattle.pq_params.proofs.Refusing.{same-long, search-passed, search-agree, celled-long}
@@ -103,3 +106,9 @@ module _ (a : Asked) (l : Lent) where
   pub worked-probed : startsGood a ≡ true → coarseFinite a ≡ true → probedSound a ≡ true → searchWorked a l ≡ probedOutcome a l
   unfolding searchWorked
   worked-probed s c p = rw (s, c, p)
+
+-- The work depends on the lengths of what is lent alone: the steps begin with m, and the table that they leave becomes zero.
+pub worked-as : (a : Asked) (l m : Lent) (r : Searched) (rows : List ℕ) (sums table : List Float) (n : ℕ) → searchOut r rows sums (fill zero32 (length (m .table))) ≡ searchWorked a m
+    → table ≡ fill zero32 n → n ≡ length (l .table) → askedOf m ≡ askedOf l → length (m .table) ≡ length (l .table) → searchOut r rows sums table ≡ searchWorked a l
+unfolding searchWorked
+worked-as a l m r rows sums table n e z u k t = ap (searchOut r rows sums) (z ∙ ap (fill zero32) (u ∙ sym t)) ∙ e ∙ rw (k, t)

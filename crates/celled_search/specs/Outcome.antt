@@ -1,6 +1,6 @@
 -- The search of a celled index as a whole: for any input, the answer and every lent buffer afterwards.
 use Prim.Native.Nat.{ℕ}
-use mathlib.Core.List.{List, [], _∷_, _++_}
+use mathlib.Core.List.{List, _∷_, _++_}
 use mathlib.Core.Bool.{Bool, cond, not}
 use lib.Dec.{eqb}
 use lib.Ieee.{Float}

@@ -71,6 +71,14 @@ pub record Probing (a : Asked) (list : List ℕ) (table : List Float) : Type 0 w
   pub sound : probedSound a ≡ true
   pub table-long : length table ≡ tableLong (a .index .shape .plain)
 
+-- the steps from the second on: the starts are sound, and there is a place for each cell to probe
+pub record Stepping (a : Asked) (places : List ℕ) (table : List Float) : Type 0 where
+  pub ready : Ready a
+  pub starts-good : startsGood a ≡ true
+  pub laws : Laws
+  pub places-long : length places ≡ a .index .shape .probes
+  pub table-long : length table ≡ tableLong (a .index .shape .plain)
+
 -- steps 4 and 5 over all probed cells: the table is zero at the end
 abbrev pub probedOutcome : Asked → Lent → SearchOut
 probedOutcome a l = cond (not (probedFinite a)) (blank l 11) (answered l (allCandidates a))

@@ -1,20 +1,9 @@
 ghost use mathlib.Core.Path.{_≡_};
-ghost use mathlib.Core.Bool.{false};
 ghost use Rattle.neighbor.specs.Held.{Held};
-ghost use Rattle.pq_params.specs.Bounds.{badPlain};
-ghost use Rattle.cell_sums.specs.Sums.{rowsOf, visible, rowsSound};
-ghost use Rattle.cell_sums.specs.SumsInner.{Rows};
 ghost use Rattle.cell_walk.specs.Results.{searchOut, lent};
 ghost use Rattle.cell_walk.specs.CellInner.{Searching, cellOf, cellOutcome};
 use answers::Searched;
 use cell_table::CellNumbers;
-
-pub fn codes_sound(z: CellNumbers, mask: &[u8], codes: &[u8], members: &[u32]) -> bool
-    requires { ⌜ (badPlain (z .shape) ≡ false) × Rows z (now mask) (now codes) (now members) ⌝ }
-    ensures { λ r. ⌜ r ≡ rowsSound (z .shape) (visible (now (mask .entry))) (now (codes .entry)) (rowsOf z (now (members .entry))) ⌝ }
-{
-    false
-}
 
 pub fn search_cell(
     z: CellNumbers,

@@ -1,8 +1,5 @@
-use borrow.Author.Needs.{needs}
 use Rattle.celled_search.proofs.stub.search_cell.Statement.{statement}
 use Rattle.celled_search.proofs.stub.search_cell.Tie as tie
-use Rattle.celled_search.proofs.stub.search_cell.Reads as reads
-use Rattle.celled_search.proofs.stub.search_cell.Lts as lts
 
 returns : tie.Need-returns
 returns c = ?

@@ -1,15 +1,10 @@
 -- `search_listed`: the cell that is searched is the definition's.
 use borrow.Author.Needs.{needs}
-use mathlib.Core.Path.{sym, _∙_}
 use Rattle.celled_search.specs.Search.{Asked}
 use Rattle.celled_search.specs.Outcome.{asking}
 use Rattle.celled_search.proofs.ProbedCells.{cell-is, cell-searched}
-use Rattle.celled_search.proofs.probed.search_listed.Statement.{statement}
-use Rattle.celled_search.proofs.probed.search_listed.Tie as tie
-use Rattle.celled_search.proofs.probed.search_listed.Reads as reads
-use Rattle.celled_search.proofs.probed.search_listed.Lts as lts
-use Rattle.celled_search.proofs.probed.cell_list.Reads as cell-list-reads
-use Rattle.celled_search.proofs.stub.search_cell.Reads as search-cell-reads
+use Rattle.celled_search.proofs.cells.search_listed.Statement.{statement}
+use Rattle.celled_search.proofs.cells.search_listed.Tie as tie
 
 abbrev asked-of : tie.Start → Asked
 asked-of c = let a = c .args in asking (a .s) (a .n) (a .query .now) (a .mask .now) (a .coarse .now) (a .starts .now) (a .members .now) (a .subs .now) (a .codes .now)
@@ -24,15 +19,6 @@ search-cell-requires c κs =
     let p = c .before .before .before .before .before .before .before .before .before .before .before .before .before .before .before .pre in
     (cell-searched (asked-of (c .before .before .before .before .before .before .before .before .before .before .before .before .before .before .before)) _ _ (c .before .before .before .before .cell-list .ensures .is) _ (p .0), p .1)
 
-same-length : tie.Need-same-length
-same-length c = search needs
-
-same-length-2 : tie.Need-same-length-2
-same-length-2 c = search needs
-
-same-length-3 : tie.Need-same-length-3
-same-length-3 c = search needs
-
 returns : tie.Need-returns
 returns c =
     rw (cell-is (asked-of (c .before .before .before .before .before .before .before .before .before .before .before .before .before .before .before .before .before .before .before .before .before .before)) _ _ (c .before .before .before .before .before .before .before .before .before .before .before .cell-list .ensures .is)) at (c .before .before .before .before .before .before .search-cell .ensures)
@@ -43,7 +29,7 @@ search-listed-spec =
     (tie.spec
     cell-list-requires
     search-cell-requires
-    same-length
-    same-length-2
-    same-length-3
+    (λ c. search needs)
+    (λ c. search needs)
+    (λ c. search needs)
     returns)

@@ -5,17 +5,12 @@ use borrow.Author.Tests.{not-true, not-false}
 use mathlib.Core.Bool.{true}
 use Rattle.lists.proofs.Tests.{every-of, every-false}
 use Rattle.celled_search.specs.SearchInner.{soundAt}
-use Prim.Native.Nat.{ℕ, suc, _+_, _*_, _-_, _≤_, _<_}
-use mathlib.Core.Path.{_≡_, refl, sym, _∙_, ap}
+use Prim.Native.Nat.{ℕ, _-_, _≤_, _<_}
+use mathlib.Core.Path.{_≡_, sym, _∙_}
 use native.Mathlib.Omega.{arith}
-use native.Mathlib.Numerals.{add-one}
-use lib.ListN.{length, getD, drop, take}
-use Rattle.celled_search.proofs.probed.probed_sound.Statement.{statement}
-use Rattle.celled_search.proofs.probed.probed_sound.Tie as tie
-use Rattle.celled_search.proofs.probed.probed_sound.Reads as reads
-use Rattle.celled_search.proofs.probed.probed_sound.Lts as lts
-use Rattle.celled_search.proofs.probed.cell_sound.Reads as cell-sound-reads
-use Rattle.lists.proofs.wide.Reads as wide-reads
+use lib.ListN.{length}
+use Rattle.celled_search.proofs.cells.probed_sound.Statement.{statement}
+use Rattle.celled_search.proofs.cells.probed_sound.Tie as tie
 
 abbrev Inv-loop : tie.InvT-loop
 Inv-loop s n probed mask starts members codes p₀ p-end p =
@@ -27,15 +22,6 @@ abbrev μ-loop : tie.MeasureT-loop
 loop-holds : tie.Need-loop-holds Inv-loop μ-loop
 loop-holds c = (search needs, below-none _)
 
-mul-wide : tie.Need-mul-wide Inv-loop μ-loop
-mul-wide c = search needs
-
-shared-slice-read-wide : tie.Need-shared-slice-read-wide Inv-loop μ-loop
-shared-slice-read-wide c = search needs
-
-wide-requires : tie.Need-wide-requires Inv-loop μ-loop
-wide-requires c κs = search needs
-
 cell-sound-requires : tie.Need-cell-sound-requires Inv-loop μ-loop
 cell-sound-requires c κs =
     (c .before .before .before .before .before .before .before .before .before .pre .0, rw (c .wide .ensures) (c .before .before .before .before .before .before .before .before .before .pre .1 (c .before .before .before .loop .p) (c .before .before .loop-test .taken)))
@@ -44,12 +30,6 @@ returns : tie.Need-returns Inv-loop μ-loop
 returns c =
     let a = c .before .before .before .before .before .before .before .before .before .before .before .args in
     sym (every-false _ (length (a .probed .now)) (c .before .before .before .before .before .loop .p) (c .before .before .before .before .loop-test .taken) (rw (c .before .before .wide .ensures) at (sym (c .before .cell-sound .ensures)) ∙ not-true _ (c .if1 .taken)))
-
-add-p : tie.Need-add-p Inv-loop μ-loop
-add-p c = search needs
-
-loop-less : tie.Need-loop-less Inv-loop μ-loop
-loop-less c = search needs
 
 loop-again : tie.Need-loop-again Inv-loop μ-loop
 loop-again c =
@@ -65,12 +45,12 @@ probed-sound-spec =
     Inv-loop
     μ-loop
     loop-holds
-    mul-wide
-    shared-slice-read-wide
-    wide-requires
+    (λ c. search needs)
+    (λ c. search needs)
+    (λ c κs. search needs)
     cell-sound-requires
     returns
-    add-p
-    loop-less
+    (λ c. search needs)
+    (λ c. search needs)
     loop-again
     returns-2)

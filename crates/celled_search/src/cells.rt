@@ -53,7 +53,7 @@ fn cell_sound(
         cell: c,
         n: list.len(),
     };
-    stub::codes_sound(z, mask, codes, list)
+    cell_sums::codes_sound(z, mask, codes, list)
 }
 
 // Step 3 over all probed cells.

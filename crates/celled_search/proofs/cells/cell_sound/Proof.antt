@@ -3,21 +3,13 @@ use borrow.Author.Needs.{needs}
 use borrow.Author.Tests.{not-true, not-false}
 use mathlib.Core.Path.{sym, _∙_}
 use Rattle.celled_search.proofs.ProbedLists.{list-rows, sound-not, sound-by}
-use Rattle.celled_search.proofs.probed.cell_sound.Statement.{statement}
-use Rattle.celled_search.proofs.probed.cell_sound.Tie as tie
-use Rattle.celled_search.proofs.probed.cell_sound.Reads as reads
-use Rattle.celled_search.proofs.probed.cell_sound.Lts as lts
-use Rattle.celled_lists.proofs.list_sound.Reads as list-sound-reads
-use Rattle.celled_search.proofs.probed.cell_list.Reads as cell-list-reads
-use Rattle.celled_search.proofs.stub.codes_sound.Reads as codes-sound-reads
+use Rattle.celled_search.proofs.cells.cell_sound.Statement.{statement}
+use Rattle.celled_search.proofs.cells.cell_sound.Tie as tie
 
 cell-list-requires : tie.Need-cell-list-requires
 cell-list-requires c κs =
     let l = c .before .before .before .before .pre .0 in
     (l .starts-long, rw (l .members-long) (l .starts-sound), c .before .before .before .before .pre .1)
-
-list-sound-requires : tie.Need-list-sound-requires
-list-sound-requires c κs = search needs
 
 returns : tie.Need-returns
 returns c =
@@ -37,4 +29,4 @@ returns-2 c =
 pub cell-sound-spec : {M : Type 1} → statement M
 cell-sound-spec =
     tie.close
-    (tie.spec cell-list-requires list-sound-requires returns codes-sound-requires returns-2)
+    (tie.spec cell-list-requires (λ c κs. search needs) returns codes-sound-requires returns-2)
