@@ -1,3 +1,1 @@
-pub mod Shown
-pub mod CodesTest
 pub mod Summing

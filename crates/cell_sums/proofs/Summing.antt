@@ -18,8 +18,8 @@ use Rattle.lists.proofs.Tables.{tab-step, length-tab, getD-tab}
 use Rattle.lists.proofs.Tests.{every-ext, every-true}
 use Rattle.lists.proofs.Joins.{within}
 use Rattle.metrics.specs.Distance.{zero32, sumTo, finiteIn}
-use Rattle.cell_sums.specs.Sums.{codeAt}
-use Rattle.cell_sums.specs.SumsInner.{codeUnder}
+use Rattle.cell_codes.specs.Codes.{codeAt}
+use Rattle.cell_codes.specs.CodesInner.{codeUnder}
 use Rattle.cell_sums.specs.declared.Four.{Four}
 use Rattle.cell_sums.specs.declared.FourRows.{FourRows}
 use Rattle.cell_sums.specs.SumsInner.{Coded, fourOf, fourFrom, fourMore, fourStored}

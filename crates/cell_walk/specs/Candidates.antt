@@ -6,7 +6,8 @@ use lib.ListN.{length}
 use lib.Dec.{eqb}
 use Rattle.neighbor.specs.declared.Candidate.{Candidate}
 use Rattle.cell_table.specs.Tables.{Cell, tableFinite}
-use Rattle.cell_sums.specs.Sums.{visibleRows, sumAt, sumsFinite}
+use Rattle.cell_codes.specs.Codes.{visibleRows}
+use Rattle.cell_sums.specs.Sums.{sumAt, sumsFinite}
 
 -- a table is worked only in a cell with a visible row
 abbrev pub nothingShown : Cell → Bool

@@ -14,8 +14,8 @@ use Rattle.pq_params.specs.Bounds.{centersOf}
 use Rattle.cell_table.specs.declared.CellNumbers.{CellNumbers}
 use Rattle.cell_table.specs.Tables.{Cell, queryFor, entryAt}
 use Rattle.cell_table.specs.TablesInner.{Tabling}
-use Rattle.cell_sums.specs.Sums.{rowsOf, visible, codesSound}
-use Rattle.cell_sums.specs.SumsInner.{Rows}
+use Rattle.cell_codes.specs.Codes.{rowsOf, visible, codesSound}
+use Rattle.cell_codes.specs.CodesInner.{Rows}
 use Rattle.cell_walk.specs.Candidates.{nothingShown, cellFinite, candidates}
 use Rattle.cell_walk.specs.Results.{Lent, SearchOut, askedOf, saidDone, blank}
 

@@ -1,20 +1,13 @@
 -- Test 4 of a celled index: where tests 1, 3 and 4 let an index pass, each of its buffers is of document 01's length.
-use Prim.Native.Nat.{ℕ, _+_, _*_}
-use mathlib.Core.Path.{_≡_, _∙_, ap}
+use Prim.Native.Nat.{_+_, _*_}
+use mathlib.Core.Path.{_≡_}
 use mathlib.Core.Bool.{false}
 use lib.ListN.{length}
 use Rattle.lists.specs.Tests.{anyOf}
 use Rattle.lists.proofs.Tests.{none}
-use Rattle.pq_params.specs.declared.CelledShape.{CelledShape}
-use Rattle.pq_params.specs.declared.CelledLengths.{CelledLengths}
-use Rattle.pq_params.specs.Bounds.{badCelled, tooManyRows}
-use Rattle.pq_params.specs.Lengths.{subsLong, celledOf, celledLengths}
+use Rattle.pq_params.specs.Lengths.{subsLong}
 use Rattle.pq_params.proofs.Refusing.{same-long}
 use Rattle.celled_lists.specs.Index.{Index, indexLengths}
-
-pub celled-long : (s : CelledShape) (n : ℕ) → badCelled s ≡ false → tooManyRows n ≡ false → celledLengths s n ≡ celledOf s n
-unfolding celledLengths
-celled-long s n p q = rw (p, q)
 
 pub record Sized (x : Index) : Type 0 where
   pub coarse-long : length (x .coarse) ≡ x .shape .cells * x .shape .plain .d
@@ -23,14 +16,13 @@ pub record Sized (x : Index) : Type 0 where
   pub subs-long : length (x .subs) ≡ x .shape .cells * subsLong (x .shape .plain)
   pub codes-long : length (x .codes) ≡ x .n * x .shape .plain .nsub
 
-pub sized : (x : Index) → badCelled (x .shape) ≡ false → tooManyRows (x .n) ≡ false → anyOf (indexLengths x) ≡ false → Sized x
-sized x p q h =
+pub sized : (x : Index) → anyOf (indexLengths x) ≡ false → Sized x
+sized x h =
     let l = none (indexLengths x) h in
-    let e = celled-long (x .shape) (x .n) p q in
     record {
-      coarse-long = same-long (x .coarse) _ (l 0) ∙ ap (λ (y : CelledLengths). y .coarse) e;
-      starts-long = same-long (x .starts) _ (l 1) ∙ ap (λ (y : CelledLengths). y .starts) e;
-      members-long = same-long (x .members) _ (l 2) ∙ ap (λ (y : CelledLengths). y .members) e;
-      subs-long = same-long (x .subs) _ (l 3) ∙ ap (λ (y : CelledLengths). y .subs) e;
-      codes-long = same-long (x .codes) _ (l 4) ∙ ap (λ (y : CelledLengths). y .codes) e;
+      coarse-long = same-long (x .coarse) _ (l 0);
+      starts-long = same-long (x .starts) _ (l 1);
+      members-long = same-long (x .members) _ (l 2);
+      subs-long = same-long (x .subs) _ (l 3);
+      codes-long = same-long (x .codes) _ (l 4);
     }

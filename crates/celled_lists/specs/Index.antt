@@ -6,7 +6,8 @@ use lib.ListN.{length}
 use lib.Dec.{eqb}
 use lib.Ieee.{Float}
 use Rattle.pq_params.specs.declared.CelledShape.{CelledShape}
-use Rattle.pq_params.specs.Lengths.{celledLengths}
+use Rattle.pq_params.specs.declared.CelledLengths.{CelledLengths}
+use Rattle.pq_params.specs.Lengths.{celledOf}
 use Rattle.celled_lists.specs.declared.IndexLengths.{IndexLengths}
 
 pub record Index : Type 0 where
@@ -33,15 +34,15 @@ lengthsOf x = record {
   codes = length (x .codes);
 }
 
--- test 4 on these lengths: a buffer not of its length
-abbrev pub lengthTests : CelledShape → ℕ → IndexLengths → List Bool
-lengthTests s n l =
-    not (eqb (l .coarse) (celledLengths s n .coarse))
-    ∷ not (eqb (l .starts) (celledLengths s n .starts))
-    ∷ not (eqb (l .members) (celledLengths s n .members))
-    ∷ not (eqb (l .subs) (celledLengths s n .subs))
-    ∷ not (eqb (l .codes) (celledLengths s n .codes))
+-- test 4 on these lengths, which are to be `long`
+abbrev pub lengthTests : CelledLengths → IndexLengths → List Bool
+lengthTests long l =
+    not (eqb (l .coarse) (long .coarse))
+    ∷ not (eqb (l .starts) (long .starts))
+    ∷ not (eqb (l .members) (long .members))
+    ∷ not (eqb (l .subs) (long .subs))
+    ∷ not (eqb (l .codes) (long .codes))
     ∷ []
 
 abbrev pub indexLengths : Index → List Bool
-indexLengths x = lengthTests (x .shape) (x .n) (lengthsOf x)
+indexLengths x = lengthTests (celledOf (x .shape) (x .n)) (lengthsOf x)

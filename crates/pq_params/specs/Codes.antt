@@ -13,5 +13,5 @@ abbrev pub codeAt : List ℕ → ℕ → ℕ → ℕ → ℕ
 codeAt codes nsub m s = getD codes (m * nsub + s) 0
 
 -- whether the codes of row m are below K
-abbrev pub codesBelow : Shape → List ℕ → ℕ → Bool
-codesBelow p codes m = every (λ (s : ℕ). ltb (codeAt codes (p .nsub) m s) (centersOf (p .bits))) (p .nsub)
+abbrev pub codesBelow : List ℕ → Shape → ℕ → Bool
+codesBelow codes z m = every (λ (s : ℕ). ltb (codeAt codes (z .nsub) m s) (centersOf (z .bits))) (z .nsub)
