@@ -1,16 +1,16 @@
 -- `search_probed`: the results hold the first k of the cells passed, and the first cell that is refused ends the walk.
 use borrow.Author.Needs.{needs}
 use Rattle.cell_walk.specs.Results.{lent}
-use Rattle.celled_search.specs.Search.{Asked}
-use Rattle.celled_search.specs.Outcome.{asking}
-use Rattle.celled_search.proofs.ProbedCells.{probed-is, probed-few, probed-rows, walking-at}
-use Rattle.celled_search.proofs.ProbedWalk.{Reached, reached-none, counted-few, reached-more, reached-not, reached-all}
+use Rattle.probed_cells.specs.Search.{Asked}
+use Rattle.probed_cells.specs.Search.{asking}
+use Rattle.probed_cells.proofs.ProbedCells.{probed-is, probed-few, probed-rows, walking-at}
+use Rattle.probed_cells.proofs.ProbedWalk.{Reached, reached-none, counted-few, reached-more, reached-not, reached-all}
 use Prim.Native.Nat.{_-_, _≤_}
 use mathlib.Core.Path.{_≡_, sym, ap}
 use native.Mathlib.Omega.{arith}
 use lib.ListN.{length}
-use Rattle.celled_search.proofs.cells.search_probed.Statement.{statement}
-use Rattle.celled_search.proofs.cells.search_probed.Tie as tie
+use Rattle.probed_cells.proofs.search_probed.Statement.{statement}
+use Rattle.probed_cells.proofs.search_probed.Tie as tie
 
 abbrev Inv-loop : tie.InvT-loop
 Inv-loop s n probed query mask coarse starts members subs codes rows₀ sums₀ table₀ found₀ scored₀ p₀ p-end rows sums table found scored p =

@@ -4,13 +4,13 @@ use borrow.Author.Count.{below-none, below-more}
 use borrow.Author.Tests.{not-true, not-false}
 use mathlib.Core.Bool.{true}
 use Rattle.lists.proofs.Tests.{every-of, every-false}
-use Rattle.celled_search.specs.SearchInner.{soundAt}
+use Rattle.probed_cells.specs.ProbedInner.{soundAt}
 use Prim.Native.Nat.{ℕ, _-_, _≤_, _<_}
 use mathlib.Core.Path.{_≡_, sym, _∙_}
 use native.Mathlib.Omega.{arith}
 use lib.ListN.{length}
-use Rattle.celled_search.proofs.cells.probed_sound.Statement.{statement}
-use Rattle.celled_search.proofs.cells.probed_sound.Tie as tie
+use Rattle.probed_cells.proofs.probed_sound.Statement.{statement}
+use Rattle.probed_cells.proofs.probed_sound.Tie as tie
 
 abbrev Inv-loop : tie.InvT-loop
 Inv-loop s n probed mask starts members codes p₀ p-end p =

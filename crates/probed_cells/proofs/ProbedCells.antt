@@ -14,11 +14,11 @@ use Rattle.pq_params.proofs.Bounds.{celled-bounds}
 use Rattle.celled_lists.specs.Lists.{listSound}
 use Rattle.celled_probe.proofs.Nearest.{nearest-long, nearest-below}
 use Rattle.cell_table.specs.Tables.{Cell}
-use Rattle.cell_sums.specs.Sums.{codesSound}
+use Rattle.cell_codes.specs.Codes.{codesSound}
 use Rattle.cell_walk.specs.CellInner.{cellOf, Searching}
-use Rattle.celled_search.specs.Search.{Asked, startsGood, coarseDistance, probed, probedAt, membersAt, cellAt, cellSound, probedSound}
-use Rattle.celled_search.specs.SearchInner.{Listed, Ready, Walking, Probing}
-use Rattle.celled_search.proofs.ProbedLists.{numbersOf, rows-are, list-few, list-rows}
+use Rattle.probed_cells.specs.Search.{Asked, startsGood, coarseDistance, probed, probedAt, membersAt, cellAt, cellSound, probedSound}
+use Rattle.probed_cells.specs.ProbedInner.{Listed, Ready, Walking, Probing}
+use Rattle.probed_cells.proofs.ProbedLists.{numbersOf, rows-are, list-few, list-rows}
 
 module _ (a : Asked) where
   -- the lists may be read

@@ -4,9 +4,9 @@ use Prim.Native.Nat.{_≤_}
 use native.Mathlib.Omega.{arith}
 use lib.ListN.{length}
 use Rattle.celled_lists.proofs.Starts.{cell-within}
-use Rattle.celled_search.proofs.ProbedLists.{list-part}
-use Rattle.celled_search.proofs.cells.cell_list.Statement.{statement}
-use Rattle.celled_search.proofs.cells.cell_list.Tie as tie
+use Rattle.probed_cells.proofs.ProbedLists.{list-part}
+use Rattle.probed_cells.proofs.cell_list.Statement.{statement}
+use Rattle.probed_cells.proofs.cell_list.Tie as tie
 
 -- the cell's list lies within the members
 lies : (c : tie.After-wide2) → (c .before .before .wide .result ≤ c .wide2 .result) × (c .wide2 .result ≤ length (c .before .before .before .before .before .before .args .members .now))

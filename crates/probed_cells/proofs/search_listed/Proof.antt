@@ -1,10 +1,10 @@
 -- `search_listed`: the cell that is searched is the definition's.
 use borrow.Author.Needs.{needs}
-use Rattle.celled_search.specs.Search.{Asked}
-use Rattle.celled_search.specs.Outcome.{asking}
-use Rattle.celled_search.proofs.ProbedCells.{cell-is, cell-searched}
-use Rattle.celled_search.proofs.cells.search_listed.Statement.{statement}
-use Rattle.celled_search.proofs.cells.search_listed.Tie as tie
+use Rattle.probed_cells.specs.Search.{Asked}
+use Rattle.probed_cells.specs.Search.{asking}
+use Rattle.probed_cells.proofs.ProbedCells.{cell-is, cell-searched}
+use Rattle.probed_cells.proofs.search_listed.Statement.{statement}
+use Rattle.probed_cells.proofs.search_listed.Tie as tie
 
 abbrev asked-of : tie.Start → Asked
 asked-of c = let a = c .args in asking (a .s) (a .n) (a .query .now) (a .mask .now) (a .coarse .now) (a .starts .now) (a .members .now) (a .subs .now) (a .codes .now)

@@ -17,9 +17,9 @@ use Rattle.pq_params.specs.declared.CelledShape.{CelledShape}
 use Rattle.celled_lists.specs.Lists.{startOf, membersOf, isBelow, listSound}
 use Rattle.celled_lists.proofs.Starts.{cell-within}
 use Rattle.cell_table.specs.declared.CellNumbers.{CellNumbers}
-use Rattle.cell_sums.specs.Sums.{rowsOf, visible, rowsSound}
-use Rattle.cell_sums.specs.SumsInner.{Rows}
-use Rattle.celled_search.specs.SearchInner.{Listed, soundIn}
+use Rattle.cell_codes.specs.Codes.{rowsOf, visible, rowsSound}
+use Rattle.cell_codes.specs.CodesInner.{Rows}
+use Rattle.probed_cells.specs.ProbedInner.{Listed, soundIn}
 
 -- a part between two starts is a cell's list
 pub list-part : (starts members : List ℕ) (c a e : ℕ) → a ≡ startOf starts c → e ≡ startOf starts (c + 1) → a ≤ e → e ≤ length members

@@ -7,6 +7,8 @@ use lib.ListN.{length}
 use lib.Ieee.{Float}
 use Rattle.answers.specs.declared.Searched.{Searched}
 use Rattle.answers.specs.declared.Searched.the-variants.{Done, Refused}
+use Rattle.lists.specs.Lists.{fill}
+use Rattle.metrics.specs.Distance.{zero32}
 use Rattle.neighbor.specs.declared.Candidate.{Candidate}
 use Rattle.neighbor.specs.Neighbor.{firstOf, resultRows, resultSums}
 use Rattle.neighbor.specs.Held.{Held}
@@ -30,5 +32,5 @@ pub record Laws : Type 0 where
   pub holding-next : (k : ℕ) (cs : List Candidate) (c : Cell) (rows : List ℕ) (sums table : List Float) (found : ℕ) (r : Searched) (rows' : List ℕ) (sums' table' : List Float)
       → Holding k cs rows sums found → cellFinite c ≡ true → searchOut r rows' sums' table' ≡ cellOutcome c (lent rows sums table) found → Next k cs c r rows' sums'
   pub cell-refused : (c : Cell) (l : Lent) (found : ℕ) (r : Searched) (rows' : List ℕ) (sums' table' : List Float) → cellFinite c ≡ false
-      → searchOut r rows' sums' table' ≡ cellOutcome c l found → (r ≡ Refused 11) × (rows' ≡ resultRows (askedOf l) []) × (sums' ≡ resultSums (askedOf l) [])
+      → searchOut r rows' sums' table' ≡ cellOutcome c l found → (r ≡ Refused 11) × (rows' ≡ resultRows (askedOf l) []) × (sums' ≡ resultSums (askedOf l) []) × (table' ≡ fill zero32 (length (l .table)))
   pub candidates-few : (c : Cell) → length (candidates c) ≤ length (c .rows)

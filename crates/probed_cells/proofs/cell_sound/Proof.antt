@@ -2,9 +2,9 @@
 use borrow.Author.Needs.{needs}
 use borrow.Author.Tests.{not-true, not-false}
 use mathlib.Core.Path.{sym, _∙_}
-use Rattle.celled_search.proofs.ProbedLists.{list-rows, sound-not, sound-by}
-use Rattle.celled_search.proofs.cells.cell_sound.Statement.{statement}
-use Rattle.celled_search.proofs.cells.cell_sound.Tie as tie
+use Rattle.probed_cells.proofs.ProbedLists.{list-rows, sound-not, sound-by}
+use Rattle.probed_cells.proofs.cell_sound.Statement.{statement}
+use Rattle.probed_cells.proofs.cell_sound.Tie as tie
 
 cell-list-requires : tie.Need-cell-list-requires
 cell-list-requires c κs =

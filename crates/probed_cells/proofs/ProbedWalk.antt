@@ -19,9 +19,9 @@ use Rattle.neighbor.specs.Neighbor.{firstOf}
 use Rattle.cell_walk.specs.Candidates.{cellFinite, candidates}
 use Rattle.cell_walk.specs.Results.{Lent, lent, searchOut, askedOf}
 use Rattle.cell_walk.specs.CellInner.{cellOutcome}
-use Rattle.celled_search.specs.Search.{Asked, probed, membersAt, probedCell, probedAt, probedFinite, allCandidates}
-use Rattle.celled_search.specs.SearchInner.{Blank, probedOutcome}
-use Rattle.celled_search.specs.StubCells.{Holding, Laws}
+use Rattle.probed_cells.specs.Search.{Asked, probed, membersAt, probedCell, probedAt, probedFinite, allCandidates}
+use Rattle.probed_cells.specs.ProbedInner.{Cleared, probedOutcome}
+use Rattle.probed_cells.specs.StubCells.{Holding, Laws}
 
 module _ (a : Asked) where
   -- the candidates of the first p probed cells
@@ -35,11 +35,11 @@ module _ (a : Asked) where
     pub few : scored ≤ p * 100_001
 
 module _ (laws : Laws) (a : Asked) where
-  pub reached-none : (k : ℕ) (rows : List ℕ) (sums : List Float) → Blank k rows sums → Reached a k 0 rows sums 0 0
+  pub reached-none : (l : Lent) → Cleared l → Reached a (askedOf l) 0 (l .rows) (l .sums) 0 0
   unfolding join
-  reached-none k rows sums b = record {
+  reached-none l b = record {
     finite-so = below-none _;
-    holds = laws .holding-none k rows sums (b .rows-blank) (b .sums-blank);
+    holds = laws .holding-none (askedOf l) (l .rows) (l .sums) (b .rows-blank) (b .sums-blank);
     counted = refl;
     few = omega arith;
   }
@@ -94,17 +94,17 @@ module _ (laws : Laws) (a : Asked) where
         })
 
     -- the first that is refused ends the walk
-    pub reached-not : (l : Lent) (number : ℕ) → askedOf l ≡ length rows → p < length (probed a) → r ≡ Refused number
-        → searchOut r rows' sums' (fill zero32 (length (l .table))) ≡ probedOutcome a l
+    pub reached-not : (l : Lent) (number : ℕ) → askedOf l ≡ length rows → length (l .table) ≡ length table → p < length (probed a) → r ≡ Refused number
+        → searchOut r rows' sums' table' ≡ probedOutcome a l
     unfolding probedFinite
-    reached-not l number m h d =
+    reached-not l number m w h d =
         let t = refused-not number d in
         let q = laws .cell-refused (probedCell a p) (lent rows sums table) found r rows' sums' table' t e in
-        rw (every-false (λ (i : ℕ). cellFinite (probedCell a i)) (length (probed a)) p h t, q .0, q .1, q .2, m)
+        rw (every-false (λ (i : ℕ). cellFinite (probedCell a i)) (length (probed a)) p h t, q .0, q .1, q .2, q .3, m, w)
 
-  pub reached-all : (l : Lent) (p : ℕ) (rows : List ℕ) (sums : List Float) (found scored : ℕ) → p ≡ length (probed a) → Reached a (askedOf l) p rows sums found scored
-      → searchOut (Done found scored) rows sums (fill zero32 (length (l .table))) ≡ probedOutcome a l
+  pub reached-all : (l : Lent) (p : ℕ) (rows : List ℕ) (sums table : List Float) (found scored n : ℕ) → Reached a (askedOf l) p rows sums found scored → p ≡ length (probed a)
+      → table ≡ fill zero32 n → n ≡ length (l .table) → searchOut (Done found scored) rows sums table ≡ probedOutcome a l
   unfolding probedFinite allCandidates
-  reached-all l p rows sums found scored e R =
+  reached-all l p rows sums table found scored n R e z w =
       let t = every-of (λ (i : ℕ). cellFinite (probedCell a i)) p (R .finite-so) in
-      rw (← e, t, R .counted, R .holds .found-is, R .holds .rows-are, R .holds .sums-are)
+      rw (← e, t, R .counted, R .holds .found-is, R .holds .rows-are, R .holds .sums-are, z, w)

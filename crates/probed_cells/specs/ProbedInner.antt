@@ -1,20 +1,22 @@
--- What the steps of a celled search promise to one another.
+-- What the walks of the probed cells count on, and what they promise to the search as a whole.
 use Prim.Native.Nat.{ℕ, _+_, _*_, _≤_, _<_}
 use mathlib.Core.Path.{_≡_}
 use mathlib.Core.List.{List, []}
 use mathlib.Core.Bool.{Bool, true, false, cond, not, _&&_}
 use lib.ListN.{length, getD}
 use lib.Ieee.{Float}
+use Rattle.lists.specs.Lists.{fill}
+use Rattle.metrics.specs.Distance.{zero32}
 use Rattle.neighbor.specs.Neighbor.{resultRows, resultSums}
 use Rattle.pq_params.specs.declared.Shape.{Shape}
 use Rattle.pq_params.specs.declared.CelledShape.{CelledShape}
 use Rattle.pq_params.specs.Bounds.{badPlain, badCelled}
 use Rattle.pq_params.specs.Lengths.{subsLong, tableLong}
 use Rattle.celled_lists.specs.Lists.{startsSound, membersOf, listSound}
-use Rattle.cell_sums.specs.Sums.{visible, rowsSound}
-use Rattle.cell_walk.specs.Results.{Lent, SearchOut, blank, answered}
-use Rattle.celled_search.specs.StubCells.{Laws}
-use Rattle.celled_search.specs.Search.{Asked, startsGood, probed, cellSound, probedSound, probedFinite, allCandidates}
+use Rattle.cell_codes.specs.Codes.{visible, rowsSound}
+use Rattle.cell_walk.specs.Results.{Lent, SearchOut, askedOf, blank, answered}
+use Rattle.probed_cells.specs.StubCells.{Laws}
+use Rattle.probed_cells.specs.Search.{Asked, startsGood, probed, cellSound, probedSound, probedFinite, allCandidates}
 
 -- ---- step 3
 
@@ -71,19 +73,12 @@ pub record Probing (a : Asked) (list : List ℕ) (table : List Float) : Type 0 w
   pub sound : probedSound a ≡ true
   pub table-long : length table ≡ tableLong (a .index .shape .plain)
 
--- the steps from the second on: the starts are sound, and there is a place for each cell to probe
-pub record Stepping (a : Asked) (places : List ℕ) (table : List Float) : Type 0 where
-  pub ready : Ready a
-  pub starts-good : startsGood a ≡ true
-  pub laws : Laws
-  pub places-long : length places ≡ a .index .shape .probes
-  pub table-long : length table ≡ tableLong (a .index .shape .plain)
+-- results all blank, and the table zero
+pub record Cleared (l : Lent) : Type 0 where
+  pub rows-blank : l .rows ≡ resultRows (askedOf l) []
+  pub sums-blank : l .sums ≡ resultSums (askedOf l) []
+  pub table-zero : l .table ≡ fill zero32 (length (l .table))
 
--- steps 4 and 5 over all probed cells: the table is zero at the end
+-- steps 4 and 5 over all probed cells
 abbrev pub probedOutcome : Asked → Lent → SearchOut
 probedOutcome a l = cond (not (probedFinite a)) (blank l 11) (answered l (allCandidates a))
-
--- results of length k whose places are all blank
-pub record Blank (k : ℕ) (rows : List ℕ) (sums : List Float) : Type 0 where
-  pub rows-blank : rows ≡ resultRows k []
-  pub sums-blank : sums ≡ resultSums k []

@@ -8,11 +8,12 @@ use Rattle.lists.specs.Lists.{join}
 use Rattle.lists.specs.Tests.{every}
 use Rattle.metrics.specs.Distance.{coordinateIn, coordinate}
 use Rattle.neighbor.specs.declared.Candidate.{Candidate}
-use Rattle.celled_lists.specs.Index.{Index}
+use Rattle.pq_params.specs.declared.CelledShape.{CelledShape}
+use Rattle.celled_lists.specs.Index.{Index, indexOf}
 use Rattle.celled_lists.specs.Lists.{startsSound, membersOf, listSound}
 use Rattle.celled_probe.specs.Probe.{distanceTo, finiteCells, nearestCells}
 use Rattle.cell_table.specs.Tables.{Cell}
-use Rattle.cell_sums.specs.Sums.{visible, codesSound}
+use Rattle.cell_codes.specs.Codes.{visible, codesSound}
 use Rattle.cell_walk.specs.Candidates.{cellFinite, candidates}
 
 -- what is asked of an index: a query and a row mask
@@ -20,6 +21,11 @@ pub record Asked : Type 0 where
   pub index : Index
   pub query : List Float
   pub mask : List ℕ
+
+-- what a promise builds of the inputs
+abbrev pub asking : CelledShape → ℕ → List Float → List ℕ → List Float → List ℕ → List ℕ → List Float → List ℕ → Asked
+asking s n query mask coarse starts members subs codes =
+    record { index = indexOf s n coarse starts members subs codes; query = query; mask = mask }
 
 -- 1. starts go from 0 to n and never fall
 abbrev pub startsGood : Asked → Bool

@@ -1,22 +1,21 @@
-// The probed cells: the list of each, step 3's tests over all of them, and steps 4 and 5, cell by cell in probe order.
+// The probed cells of a celled index: the list of each, step 3's tests over all of them, and steps 4 and 5, cell by cell in probe order.
 ghost use mathlib.Core.Path.{_≡_};
 ghost use mathlib.Core.Bool.{true};
 ghost use Prim.Native.Nat.{suc, _+_, _-_, _<_};
 ghost use lib.ListN.{length};
-ghost use Rattle.lists.specs.Lists.{fill, Part};
+ghost use Rattle.lists.specs.Lists.{Part};
 ghost use Rattle.lists.specs.Tests.{every};
-ghost use Rattle.metrics.specs.Distance.{zero32};
 ghost use Rattle.neighbor.specs.Held.{Held};
 ghost use Rattle.celled_lists.specs.Lists.{startOf, startsSound};
 ghost use Rattle.cell_walk.specs.Results.{searchOut, lent};
 ghost use Rattle.cell_walk.specs.CellInner.{cellOutcome};
-ghost use Rattle.celled_search.specs.Search.{cellAt};
-ghost use Rattle.celled_search.specs.Outcome.{asking};
-ghost use Rattle.celled_search.specs.SearchInner.{Listed, CellsIn, soundIn, soundAt, Walking, Probing, Blank, probedOutcome};
-use crate::stub;
+ghost use Rattle.probed_cells.specs.Search.{asking, cellAt};
+ghost use Rattle.probed_cells.specs.ProbedInner.{Listed, CellsIn, soundIn, soundAt, Walking, Probing, Cleared, probedOutcome};
 use answers::Searched;
 use cell_table::CellNumbers;
 use pq_params::CelledShape;
+
+mod stub;
 
 // The members of cell c.
 fn cell_list<'a>(starts: &[u32], members: &'a [u32], cells: usize, c: usize) -> &'a [u32]
@@ -53,7 +52,7 @@ fn cell_sound(
         cell: c,
         n: list.len(),
     };
-    cell_sums::codes_sound(z, mask, codes, list)
+    cell_codes::codes_sound(z, mask, codes, list)
 }
 
 // Step 3 over all probed cells.
@@ -126,7 +125,7 @@ fn search_listed(
     )
 }
 
-// Steps 4 and 5 over all probed cells in their order, into blank results; a refusal leaves them blank. The table is left as it is.
+// Steps 4 and 5 over all probed cells in their order, into blank results; a refusal leaves them blank. At every end the table is zero.
 pub fn search_probed(
     s: CelledShape,
     n: usize,
@@ -144,8 +143,8 @@ pub fn search_probed(
 ) -> Searched
     requires { ⌜ Probing (asking s n (now query) (now mask) (now coarse) (now starts) (now members) (now subs) (now codes))
         (now probed) (now table) ⌝ }
-    requires { ⌜ Blank (length (now rows)) (now rows) (now sums) ⌝ }
-    ensures { λ r. ⌜ searchOut r (now (rows .exit)) (now (sums .exit)) (fill zero32 (length (now (table .entry)))) ≡
+    requires { ⌜ Cleared (lent (now rows) (now sums) (now table)) ⌝ }
+    ensures { λ r. ⌜ searchOut r (now (rows .exit)) (now (sums .exit)) (now (table .exit)) ≡
         probedOutcome (asking s n (now (query .entry)) (now (mask .entry)) (now (coarse .entry)) (now (starts .entry))
         (now (members .entry)) (now (subs .entry)) (now (codes .entry)))
         (lent (now (rows .entry)) (now (sums .entry)) (now (table .entry))) ⌝ }
@@ -180,5 +179,6 @@ pub fn search_probed(
         found = kept;
         scored = scored + counted;
     }
+    lists::fill_floats(table, 0.0);
     Searched::Done { found, scored }
 }
