@@ -1,7 +1,7 @@
 -- What the steps of the walk promise to one another: of the rows g 0, g 1, .. of a cell, which v shows, and whose sums are f.
 use Prim.Native.Nat.{ℕ, _+_, _*_, _≤_, _<_}
 use mathlib.Core.Path.{_≡_}
-use mathlib.Core.Bool.{Bool, true, cond}
+use mathlib.Core.Bool.{Bool, true, false, cond}
 use mathlib.Core.List.{List, [], _++_, map}
 use lib.ListN.{length, take, drop}
 use lib.Ieee.{Float}
@@ -10,7 +10,7 @@ use Rattle.lists.specs.Tests.{every, keep}
 use Rattle.metrics.specs.Distance.{zero32}
 use Rattle.neighbor.specs.declared.Candidate.{Candidate}
 use Rattle.neighbor.specs.Neighbor.{comesBefore, insertAll, rowOf, sumOf, resultRows, resultSums}
-use Rattle.neighbor.specs.Held.{held, Held}
+use Rattle.neighbor.specs.Held.{held}
 use Rattle.neighbor.specs.Gathered.{Runs, runs}
 use Rattle.answers.specs.declared.Searched.{Searched}
 use Rattle.answers.specs.declared.Searched.the-variants.{Done, Refused}
@@ -75,10 +75,10 @@ pub record Visited (f : ℕ → Float) (v : ℕ → Bool) (g : ℕ → ℕ) (fro
     (rows' : List ℕ) (sums' : List Float) (batchRows' : List ℕ) (batchSums' : List Float) (r : Step) : Type 0 where
   pub broken : (number : ℕ) → r ≡ Stopped number → (number ≡ 11) × (finiteTo f v g to ≡ false)
   pub passed : (found waiting count : ℕ) → r ≡ Went found waiting count → finiteTo f v g from ≡ true → finiteTo f v g to ≡ true
-  pub offered : (found waiting count : ℕ) → r ≡ Went found waiting count → (cs : List Candidate)
-      × (candidatesTo f v g to ≡ candidatesTo f v g from ++ cs)
-      × (length cs ≡ count)
-      × (runs rows' sums' found batchRows' batchSums' waiting ≡ offeredAll s cs)
+  pub counted : (found waiting count : ℕ) → r ≡ Went found waiting count
+      → length (candidatesTo f v g to) ≡ length (candidatesTo f v g from) + count
+  pub offered : (found waiting count : ℕ) → r ≡ Went found waiting count → (s₀ : Runs) → s ≡ offeredAll s₀ (candidatesTo f v g from)
+      → runs rows' sums' found batchRows' batchSums' waiting ≡ offeredAll s₀ (candidatesTo f v g to)
 
 -- ---- all stretches
 
@@ -115,8 +115,10 @@ pub record Walked (f : ℕ → Float) (v : ℕ → Bool) (g : ℕ → ℕ) (n : 
 pub record Scanned (f : ℕ → Float) (v : ℕ → Bool) (g : ℕ → ℕ) (n : ℕ) (rows : List ℕ) (sums : List Float) (found : ℕ) (table : List Float)
     (rows' : List ℕ) (sums' : List Float) (table' : List Float) (r : Searched) : Type 0 where
   pub answer : r ≡ walkAnswer (finiteTo f v g n) (staying (candidatesTo f v g n) rows sums found) (candidatesTo f v g n)
-  pub rows-are : rows' ≡ cond (finiteTo f v g n) (stayRows (staying (candidatesTo f v g n) rows sums found) rows) (resultRows (length rows) [])
-  pub sums-are : sums' ≡ cond (finiteTo f v g n) (staySums (staying (candidatesTo f v g n) rows sums found) sums) (resultSums (length rows) [])
+  pub rows-are : rows'
+      ≡ cond (finiteTo f v g n) (stayRows (staying (candidatesTo f v g n) rows sums found) rows) (resultRows (length rows) [])
+  pub sums-are : sums'
+      ≡ cond (finiteTo f v g n) (staySums (staying (candidatesTo f v g n) rows sums found) sums) (resultSums (length rows) [])
   pub table-is : table' ≡ cond (finiteTo f v g n) table (fill zero32 (length table))
 
 -- results of length k whose places are all blank

@@ -26,11 +26,15 @@ use Rattle.offers.specs.OffersInner.{offeredAll, Stands, behindAt}
 
 -- ---- the definition
 
--- the last of a list comes last
-pub offered-last : (s : Runs) (cs : List Candidate) (c : Candidate) → offeredAll s (cs ++ (c ∷ [])) ≡ offered (offeredAll s cs) c
+-- one list after another, and the last of a list
+pub offered-append : (s : Runs) (cs ds : List Candidate) → offeredAll s (cs ++ ds) ≡ offeredAll (offeredAll s cs) ds
 unfolding offeredAll
-offered-last s [] c = refl
-offered-last s (d ∷ cs) c = offered-last (offered s d) cs c
+offered-append s [] ds = refl
+offered-append s (c ∷ cs) ds = offered-append (offered s c) cs ds
+
+offered-last : (s : Runs) (cs : List Candidate) (c : Candidate) → offeredAll s (cs ++ (c ∷ [])) ≡ offered (offeredAll s cs) c
+unfolding offeredAll
+offered-last s cs c = offered-append s cs (c ∷ [])
 
 -- of two runs: none, and one more
 pub each-none : (s : Runs) (rows : List ℕ) (sums : List Float) → s ≡ offeredAll s (held rows sums 0)
