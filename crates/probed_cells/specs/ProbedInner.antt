@@ -15,7 +15,6 @@ use Rattle.pq_params.specs.Lengths.{subsLong, tableLong}
 use Rattle.celled_lists.specs.Lists.{startsSound, membersOf, listSound}
 use Rattle.cell_codes.specs.Codes.{visible, rowsSound}
 use Rattle.cell_walk.specs.Results.{Lent, SearchOut, askedOf, blank, answered}
-use Rattle.probed_cells.specs.StubCells.{Laws}
 use Rattle.probed_cells.specs.Search.{Asked, startsGood, probed, cellSound, probedSound, probedFinite, allCandidates}
 
 -- ---- step 3
@@ -69,7 +68,6 @@ pub record Probing (a : Asked) (list : List ℕ) (table : List Float) : Type 0 w
   pub ready : Ready a
   pub starts-good : startsGood a ≡ true
   pub list-is : list ≡ probed a
-  pub laws : Laws
   pub sound : probedSound a ≡ true
   pub table-long : length table ≡ tableLong (a .index .shape .plain)
 

@@ -15,8 +15,6 @@ use answers::Searched;
 use cell_table::CellNumbers;
 use pq_params::CelledShape;
 
-mod stub;
-
 // The members of cell c.
 fn cell_list<'a>(starts: &[u32], members: &'a [u32], cells: usize, c: usize) -> &'a [u32]
     requires { ⌜ (length (now starts) ≡ cells + 1) × (startsSound (now starts) cells (length (now members)) ≡ true) × (c < cells) ⌝ }
@@ -110,7 +108,7 @@ fn search_listed(
         cell: c,
         n: list.len(),
     };
-    stub::search_cell(
+    cell_walk::search_cell(
         z,
         query,
         coarse,

@@ -1,6 +1,6 @@
 -- `search_probed`: the results hold the first k of the cells passed, and the first cell that is refused ends the walk.
 use borrow.Author.Needs.{needs}
-use Rattle.cell_walk.specs.Results.{lent}
+use Rattle.cell_walk.specs.Results.{Lent, lent}
 use Rattle.probed_cells.specs.Search.{Asked}
 use Rattle.probed_cells.specs.Search.{asking}
 use Rattle.probed_cells.proofs.ProbedCells.{probed-is, probed-few, probed-rows, walking-at}
@@ -29,8 +29,11 @@ asked-of c =
     let a = c .args in
     asking (a .s) (a .n) (a .query .now) (a .mask .now) (a .coarse .now) (a .starts .now) (a .members .now) (a .subs .now) (a .codes .now)
 
+abbrev lent-of : tie.Start Inv-loop μ-loop → Lent
+lent-of c = let a = c .args in lent (a .rows .now) (a .sums .now) (a .table .now)
+
 loop-holds : tie.Need-loop-holds Inv-loop μ-loop
-loop-holds c = (search needs, search needs, search needs, search needs, reached-none (c .before .before .before .before .before .before .before .before .before .before .before .pre .0 .laws) _ _ _ _ (c .before .before .before .before .before .before .before .before .before .before .before .pre .1))
+loop-holds c = (search needs, search needs, search needs, search needs, reached-none (asked-of (c .before .before .before .before .before .before .before .before .before .before .before)) (lent-of (c .before .before .before .before .before .before .before .before .before .before .before)) (c .before .before .before .before .before .before .before .before .before .before .before .pre .1))
 
 search-listed-requires : tie.Need-search-listed-requires Inv-loop μ-loop
 search-listed-requires c κs =
@@ -40,12 +43,11 @@ search-listed-requires c κs =
 returns : tie.Need-returns Inv-loop μ-loop
 returns c =
     let a = asked-of (c .before .before .before .before .before .before .before .before .before .before .before .before .before .before .before .before .before .before .before .before .before .before .before .before .before .before .before) in
-    let g = c .before .before .before .before .before .before .before .before .before .before .before .before .before .before .before .before .before .before .before .before .before .before .before .before .before .before .before .args in
     let l = c .before .before .before .before .before .before .before .before .before .before .before .before .before .before .before .loop in
     let w = c .before .before .before .before .before .before .before .before .before .before .before .before .before .before .before .before .before .before .before .before .before .before .before .before .before .before .before .pre .0 in
     let at = probed-is a _ _ w (l .p) _ (c .before .before .before .before .before .before .before .before .before .before .before .before .wide .ensures) in
-    reached-not (w .laws) a (length (g .rows .now)) (l .p) _ _ _ _ _ (l .inv .4) _ _ _ _ (rw at at (c .before .before .before .before .before .before .before .before .search-listed .ensures))
-    (lent (g .rows .now) (g .sums .now) (g .table .now)) _ (sym (l .inv .1)) (rw (w .list-is) at (c .before .before .before .before .before .before .before .before .before .before .before .before .before .before .loop-test .taken)) (c .enum-told .given .1)
+    reached-not a (length (c .before .before .before .before .before .before .before .before .before .before .before .before .before .before .before .before .before .before .before .before .before .before .before .before .before .before .before .args .rows .now)) (l .p) _ _ _ _ _ (l .inv .4) _ _ _ _ (rw at at (c .before .before .before .before .before .before .before .before .search-listed .ensures))
+    (lent-of (c .before .before .before .before .before .before .before .before .before .before .before .before .before .before .before .before .before .before .before .before .before .before .before .before .before .before .before)) _ (sym (l .inv .1)) (sym (l .inv .3)) (rw (w .list-is) at (c .before .before .before .before .before .before .before .before .before .before .before .before .before .before .loop-test .taken)) (c .enum-told .given .1)
 
 add-scored : tie.Need-add-scored Inv-loop μ-loop
 add-scored c =
@@ -53,7 +55,7 @@ add-scored c =
     let l = c .before .before .before .before .before .before .before .before .before .before .before .before .before .before .before .before .loop in
     let w = c .before .before .before .before .before .before .before .before .before .before .before .before .before .before .before .before .before .before .before .before .before .before .before .before .before .before .before .before .pre .0 in
     let at = probed-is a _ _ w (l .p) _ (c .before .before .before .before .before .before .before .before .before .before .before .before .before .wide .ensures) in
-    let f = counted-few (w .laws) a (length (c .before .before .before .before .before .before .before .before .before .before .before .before .before .before .before .before .before .before .before .before .before .before .before .before .before .before .before .before .args .rows .now)) (l .p) _ _ _ _ _ (l .inv .4) _ _ _ _ (rw at at (c .before .before .before .before .before .before .before .before .before .search-listed .ensures)) _ _ (probed-rows a _ _ w (l .p) (c .before .before .before .before .before .before .before .before .before .before .before .before .before .before .before .loop-test .taken)) (c .before .answer .given .1) in
+    let f = counted-few a (length (c .before .before .before .before .before .before .before .before .before .before .before .before .before .before .before .before .before .before .before .before .before .before .before .before .before .before .before .before .args .rows .now)) (l .p) _ _ _ _ _ (l .inv .4) _ _ _ _ (rw at at (c .before .before .before .before .before .before .before .before .before .search-listed .ensures)) _ _ (probed-rows a _ _ w (l .p) (c .before .before .before .before .before .before .before .before .before .before .before .before .before .before .before .loop-test .taken)) (c .before .answer .given .1) in
     omega (arith, f, l .inv .4 .few, probed-few a _ _ w, c .before .before .before .before .before .before .before .before .before .before .before .before .before .before .before .loop-test .taken)
 
 add-p : tie.Need-add-p Inv-loop μ-loop
@@ -70,16 +72,15 @@ loop-again c =
       search needs,
       search needs,
       search needs,
-      reached-more (w .laws) a (length (g .rows .now)) (l .p) _ _ _ _ _ (l .inv .4) _ _ _ _ (rw at at (c .before .before .before .before .before .before .before .before .before .search-listed .ensures)) _ _ (probed-rows a _ _ w (l .p) (c .before .before .before .before .before .before .before .before .before .before .before .before .before .before .before .loop-test .taken)) (c .before .answer .given .1),
+      reached-more a (length (g .rows .now)) (l .p) _ _ _ _ _ (l .inv .4) _ _ _ _ (rw at at (c .before .before .before .before .before .before .before .before .before .search-listed .ensures)) _ _ (probed-rows a _ _ w (l .p) (c .before .before .before .before .before .before .before .before .before .before .before .before .before .before .before .loop-test .taken)) (c .before .answer .given .1),
     )
 
 returns-2 : tie.Need-returns-2 Inv-loop μ-loop
 returns-2 c =
-    let a = asked-of (c .before .before .before .before .before .before .before .before .before .before .before .before .before) in
-    let g = c .before .before .before .before .before .before .before .before .before .before .before .before .before .args in
-    let l = c .before .loop in
-    let w = c .before .before .before .before .before .before .before .before .before .before .before .before .before .pre .0 in
-    reached-all (w .laws) a (lent (g .rows .now) (g .sums .now) (g .table .now)) (l .p) _ _ _ _ (omega (arith, c .loop-test .left, l .inv .0, ap length (w .list-is))) (l .inv .4)
+    let w = c .before .before .before .before .before .before .before .before .before .before .before .before .before .before .before .before .before .pre .0 in
+    let l = c .before .before .before .before .before .loop in
+    reached-all (asked-of (c .before .before .before .before .before .before .before .before .before .before .before .before .before .before .before .before .before)) (lent-of (c .before .before .before .before .before .before .before .before .before .before .before .before .before .before .before .before .before)) (l .p) _ _ _ _ _ _ (l .inv .4) (omega (arith, c .before .before .before .before .loop-test .left, l .inv .0, ap length (w .list-is)))
+    (c .before .before .fill-floats .ensures) (search needs)
 
 pub search-probed-spec : {M : Type 1} → statement M
 search-probed-spec =
@@ -102,6 +103,7 @@ search-probed-spec =
     add-p
     (λ c. search needs)
     loop-again
+    (λ c κs. search needs)
     (λ c. search needs)
     (λ c. search needs)
     (λ c. search needs)
