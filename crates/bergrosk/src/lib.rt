@@ -8,7 +8,7 @@ ghost use Rattle.plain_search.specs.Outcome.{searchIn as plainSearchIn};
 ghost use Rattle.celled_lists.specs.Index.{indexOf};
 ghost use Rattle.celled_train.specs.Outcome.{trainIn as celledTrainIn};
 ghost use Rattle.celled_check.specs.Check.{checkIn};
-ghost use Rattle.celled_search.specs.Outcome.{asking, searchIn as celledSearchIn};
+ghost use Rattle.celled_search.specs.Outcome.{searchIn as celledSearchIn};
 ghost use Rattle.cell_walk.specs.Results.{lent};
 ghost use Rattle.bergrosk.specs.Face.{shapeOf, celledShapeOf, rangeAnswerOf, plainTrained, plainTrainFaced, celledTrained, celledTrainFaced};
 ghost use Rattle.bergrosk.specs.Face.{facedCheck, checkFaced, facedSearch, plainSearchFaced, celledSearchFaced};
@@ -164,11 +164,11 @@ pub extern "C" fn bergrosk_celled_train(
     codes: &mut [u8],
     work: &mut [u32],
 ) -> TrainAnswer
-    ensures { λ r. ⌜ celledTrained r (now (coarse .exit)) (now (starts .exit)) (now (members .exit)) (now (subs .exit))
-        (now (codes .exit)) (now (work .exit))
-        ≡ celledTrainFaced (celledTrainIn (celledShapeOf d nsub bits cells probes) epochs n (now (rows .entry)) (now (draws .entry))
-        (now (coarse .entry)) (now (starts .entry)) (now (members .entry)) (now (subs .entry)) (now (codes .entry))
-        (now (work .entry))) ⌝ }
+    ensures { λ r. ⌜ celledTrained r (indexOf (celledShapeOf d nsub bits cells probes) n (now (coarse .exit)) (now (starts .exit))
+            (now (members .exit)) (now (subs .exit)) (now (codes .exit))) (now (work .exit))
+        ≡ celledTrainFaced (celledTrainIn epochs (now (rows .entry)) (now (draws .entry))
+            (indexOf (celledShapeOf d nsub bits cells probes) n (now (coarse .entry)) (now (starts .entry)) (now (members .entry))
+            (now (subs .entry)) (now (codes .entry))) (now (work .entry))) ⌝ }
 {
     let s = celled_shape(d, nsub, bits, cells, probes);
     let t = celled_train::train(
