@@ -11,6 +11,7 @@ use Rattle.pq_params.specs.declared.CelledShape.{CelledShape}
 use Rattle.pq_params.specs.Bounds.{badRange}
 use Rattle.pq_params.specs.Ranges.{pairAt}
 use Rattle.cell_walk.specs.Results.{SearchOut}
+use Rattle.celled_lists.specs.Index.{Index}
 use Rattle.plain_train.specs.Outcome as PlainTrain
 use Rattle.plain_search.specs.Outcome as PlainSearch
 use Rattle.celled_train.specs.Outcome as CelledTrain
@@ -57,19 +58,14 @@ plainTrainFaced i = plainTrainedBy (PlainTrain.trainOutcome i)
 
 pub record CelledTrained : Type 0 where
   pub said : TrainAnswer
-  pub coarse : List Float
-  pub starts : List ℕ
-  pub members : List ℕ
-  pub subs : List Float
-  pub codes : List ℕ
+  pub index : Index
   pub work : List ℕ
 
-abbrev pub celledTrained : TrainAnswer → List Float → List ℕ → List ℕ → List Float → List ℕ → List ℕ → CelledTrained
-celledTrained said coarse starts members subs codes work =
-    record { said = said; coarse = coarse; starts = starts; members = members; subs = subs; codes = codes; work = work }
+abbrev pub celledTrained : TrainAnswer → Index → List ℕ → CelledTrained
+celledTrained said index work = record { said = said; index = index; work = work }
 
 abbrev pub celledTrainedBy : CelledTrain.TrainOut → CelledTrained
-celledTrainedBy o = celledTrained (o .said) (o .coarse) (o .starts) (o .members) (o .subs) (o .codes) (o .work)
+celledTrainedBy o = celledTrained (o .said) (o .index) (o .work)
 
 unfoldable pub celledTrainFaced : CelledTrain.TrainIn → CelledTrained
 celledTrainFaced i = celledTrainedBy (CelledTrain.trainOutcome i)

@@ -8,7 +8,7 @@ ghost use Rattle.plain_search.specs.Outcome.{searchIn as plainSearchIn};
 ghost use Rattle.celled_lists.specs.Index.{indexOf};
 ghost use Rattle.celled_train.specs.Outcome.{trainIn as celledTrainIn};
 ghost use Rattle.celled_check.specs.Check.{checkIn};
-ghost use Rattle.celled_search.specs.Outcome.{asking, searchIn as celledSearchIn};
+ghost use Rattle.celled_search.specs.Outcome.{searchIn as celledSearchIn};
 ghost use Rattle.cell_walk.specs.Results.{lent};
 ghost use Rattle.bergrosk.specs.Face.{shapeOf, celledShapeOf, rangeAnswerOf, plainTrained, plainTrainFaced, celledTrained, celledTrainFaced};
 ghost use Rattle.bergrosk.specs.Face.{facedCheck, checkFaced, facedSearch, plainSearchFaced, celledSearchFaced};
@@ -138,7 +138,7 @@ pub extern "C" fn bergrosk_plain_search(
 ) -> SearchAnswer
     ensures { λ r. ⌜ facedSearch r (now (rows .exit)) (now (sums .exit)) (now (table .exit))
         ≡ plainSearchFaced (plainSearchIn (shapeOf d nsub bits) n (now (query .entry)) (now (mask .entry)) (now (subs .entry))
-        (now (codes .entry)) (now (rows .entry)) (now (sums .entry)) (now (table .entry))) ⌝ }
+        (now (codes .entry)) (lent (now (rows .entry)) (now (sums .entry)) (now (table .entry)))) ⌝ }
 {
     let s = Shape { d, nsub, bits };
     let t = plain_search::search(s, n, query, mask, subs, codes, rows, sums, table);
@@ -164,11 +164,11 @@ pub extern "C" fn bergrosk_celled_train(
     codes: &mut [u8],
     work: &mut [u32],
 ) -> TrainAnswer
-    ensures { λ r. ⌜ celledTrained r (now (coarse .exit)) (now (starts .exit)) (now (members .exit)) (now (subs .exit))
-        (now (codes .exit)) (now (work .exit))
-        ≡ celledTrainFaced (celledTrainIn (celledShapeOf d nsub bits cells probes) epochs n (now (rows .entry)) (now (draws .entry))
-        (now (coarse .entry)) (now (starts .entry)) (now (members .entry)) (now (subs .entry)) (now (codes .entry))
-        (now (work .entry))) ⌝ }
+    ensures { λ r. ⌜ celledTrained r (indexOf (celledShapeOf d nsub bits cells probes) n (now (coarse .exit)) (now (starts .exit))
+        (now (members .exit)) (now (subs .exit)) (now (codes .exit))) (now (work .exit))
+        ≡ celledTrainFaced (celledTrainIn epochs (now (rows .entry)) (now (draws .entry))
+        (indexOf (celledShapeOf d nsub bits cells probes) n (now (coarse .entry)) (now (starts .entry)) (now (members .entry))
+        (now (subs .entry)) (now (codes .entry))) (now (work .entry))) ⌝ }
 {
     let s = celled_shape(d, nsub, bits, cells, probes);
     let t = celled_train::train(
@@ -233,9 +233,9 @@ pub extern "C" fn bergrosk_celled_search(
     table: &mut [f32],
 ) -> SearchAnswer
     ensures { λ r. ⌜ facedSearch r (now (rows .exit)) (now (sums .exit)) (now (table .exit))
-        ≡ celledSearchFaced (celledSearchIn (indexOf (celledShapeOf d nsub bits cells probes) n (now (coarse .entry))
-        (now (starts .entry)) (now (members .entry)) (now (subs .entry)) (now (codes .entry))) (now (query .entry))
-        (now (mask .entry)) (now (rows .entry)) (now (sums .entry)) (now (table .entry))) ⌝ }
+        ≡ celledSearchFaced (celledSearchIn (celledShapeOf d nsub bits cells probes) n (now (query .entry)) (now (mask .entry))
+        (now (coarse .entry)) (now (starts .entry)) (now (members .entry)) (now (subs .entry)) (now (codes .entry))
+        (lent (now (rows .entry)) (now (sums .entry)) (now (table .entry)))) ⌝ }
 {
     let s = celled_shape(d, nsub, bits, cells, probes);
     let t = celled_search::search(
