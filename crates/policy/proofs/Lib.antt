@@ -6,6 +6,7 @@ pub mod Policy
 pub mod PlainPolicy
 pub mod Twice
 pub mod PolicyExamples
+pub mod PlainExamples
 pub mod Examples
 pub mod Promised
 pub mod Determinacy
