@@ -9,6 +9,7 @@ pub mod PolicyExamples
 pub mod PlainExamples
 pub mod Examples
 pub mod Promised
+pub mod DeterminacyInner
 pub mod Determinacy
 pub mod LessZero
 pub mod OneCell

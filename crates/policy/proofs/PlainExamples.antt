@@ -14,7 +14,7 @@ use Rattle.pq_params.specs.Ranges.{widthOf, beginOf}
 use Rattle.pq_params.specs.Refusals.{anyNotFinite, searchTests}
 use Rattle.cell_walk.specs.Candidates.{cellFinite, candidates}
 use Rattle.cell_walk.specs.Results.{SearchOut, lent, searchOut}
-use Rattle.plain_search.specs.Outcome.{SearchIn, searchWorked, searchOutcome}
+use Rattle.plain_search.specs.Outcome.{SearchIn, searchRefusal, searchWorked, searchOutcome}
 use Rattle.policy.specs.Sight.{CodesAlike}
 use Rattle.policy.specs.PlainPolicy.{PlainAlike}
 use Rattle.policy.proofs.PlainPolicy.{plain-row-policy}
@@ -49,7 +49,7 @@ tame = 0 ∷ 1 ∷ []
 
 -- what a search computes by
 searches : SearchIn → SearchOut
-unfolding searchOutcome searchTests searchWorked cellFinite candidates anyNotFinite widthOf beginOf comesBefore insertBy insertAll squared sumTo tab every keep ofBits add sub mul lt eq
+unfolding searchOutcome searchRefusal searchTests searchWorked cellFinite candidates anyNotFinite widthOf beginOf comesBefore insertBy insertAll squared sumTo tab every keep ofBits add sub mul lt eq
 searches i = searchOutcome i
 
 wild-tame-codes : CodesAlike 2 (1 ∷ 0 ∷ []) 1 wild tame
