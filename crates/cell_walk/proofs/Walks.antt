@@ -115,3 +115,7 @@ blank-rows k = rw sub-zero
 
 pub blank-sums : (k : ℕ) → fill zero32 k ≡ resultSums k []
 blank-sums k = rw sub-zero
+
+-- two outcomes that a blank promise allows are equal
+pub blank-once : (k : ℕ) (rows rows' : List ℕ) (sums sums' : List Float) → Blank k rows sums → Blank k rows' sums' → (rows ≡ rows') × (sums ≡ sums')
+blank-once k rows rows' sums sums' p q = (p .rows-blank ∙ sym (q .rows-blank), p .sums-blank ∙ sym (q .sums-blank))

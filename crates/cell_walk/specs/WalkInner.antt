@@ -115,8 +115,10 @@ pub record Walked (f : ℕ → Float) (v : ℕ → Bool) (g : ℕ → ℕ) (n : 
 pub record Scanned (f : ℕ → Float) (v : ℕ → Bool) (g : ℕ → ℕ) (n : ℕ) (rows : List ℕ) (sums : List Float) (found : ℕ) (table : List Float)
     (rows' : List ℕ) (sums' : List Float) (table' : List Float) (r : Searched) : Type 0 where
   pub answer : r ≡ walkAnswer (finiteTo f v g n) (staying (candidatesTo f v g n) rows sums found) (candidatesTo f v g n)
-  pub rows-are : rows' ≡ cond (finiteTo f v g n) (stayRows (staying (candidatesTo f v g n) rows sums found) rows) (resultRows (length rows) [])
-  pub sums-are : sums' ≡ cond (finiteTo f v g n) (staySums (staying (candidatesTo f v g n) rows sums found) sums) (resultSums (length rows) [])
+  pub rows-are : rows'
+      ≡ cond (finiteTo f v g n) (stayRows (staying (candidatesTo f v g n) rows sums found) rows) (resultRows (length rows) [])
+  pub sums-are : sums'
+      ≡ cond (finiteTo f v g n) (staySums (staying (candidatesTo f v g n) rows sums found) sums) (resultSums (length rows) [])
   pub table-is : table' ≡ cond (finiteTo f v g n) table (fill zero32 (length table))
 
 -- results of length k whose places are all blank

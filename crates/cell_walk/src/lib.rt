@@ -1,5 +1,5 @@
-// The search in one cell. Its rows are walked a stretch at a time: the visible ones are picked, their sums are worked out together, and they are
-// offered to the results in their order, by way of a batch. Hidden rows' codes are never looked up.
+// The search in one cell. Its rows are walked a stretch at a time: the visible ones are picked, their sums are worked out together, and
+// they are offered to the results in their order, by way of a batch. Hidden rows' codes are never looked up.
 ghost use mathlib.Core.Path.{_≡_};
 ghost use mathlib.Core.Bool.{cond};
 ghost use Prim.Native.Nat.{_+_, _≤_, _<_};
