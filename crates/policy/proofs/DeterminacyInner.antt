@@ -1,4 +1,4 @@
--- Two outcomes that a record of equations allows are equal: a table, sums, filled lists, and the cells to probe.
+-- Two outcomes that a record of equations allows are equal: the cells to probe, and filled lists.
 use Prim.Native.Nat.{ℕ}
 use mathlib.Core.Path.{_≡_, sym, _∙_}
 use mathlib.Core.List.{List}
@@ -10,13 +10,6 @@ use Rattle.cell_sums.specs.SumsInner.{Summed}
 use Rattle.celled_lists.specs.Inner as Lists
 use Rattle.celled_fill.specs.FillInner as Fill
 use Rattle.celled_probe.specs.ProbeInner.{Probed}
-
-pub tabled-determined : (f : ℕ → ℕ → Float) (z : Shape) (out out' : List Float) (r r' : ℕ) → Tabled f z out r → Tabled f z out' r' → (r ≡ r') × (out ≡ out')
-tabled-determined f z out out' r r' p q = (p .answer ∙ sym (q .answer), p .entries ∙ sym (q .entries))
-
-pub summed-determined : (f : ℕ → Float) (picked : List ℕ) (n : ℕ) (sums out out' : List Float) (r r' : ℕ) → Summed f picked n sums out r → Summed f picked n sums out' r'
-    → (r ≡ r') × (out ≡ out')
-summed-determined f picked n sums out out' r r' p q = let e : out ≡ out' = p .sums-are ∙ sym (q .sums-are) in (p .answer ∙ rw e (sym (q .answer)), e)
 
 pub probed-determined : (f : ℕ → Float) (cells : ℕ) (out o o' : List ℕ) (r r' : ℕ) → Probed f cells out o r → Probed f cells out o' r' → (r ≡ r') × (o ≡ o')
 probed-determined f cells out o o' r r' p q = (p .answer ∙ sym (q .answer), p .cells-are ∙ sym (q .cells-are))
