@@ -236,9 +236,16 @@ bergrosk_train_answer bergrosk_celled_train(
  *   - every row number below n stands once among the members, and the list of each cell rises;
  *   - every code is below K.
  *
- * A search of such an index is not answered 10, and finds no row twice. Work, n + 1024, is scratch:
- * it may hold anything, and is zero after 0 and 10. The centres are not looked at: a search answers
- * 11 where a distance from one is not finite, and other damage to a centre cannot be seen.
+ *   coarse    cells * d       as trained, like the next four
+ *   starts    cells + 1
+ *   members   n
+ *   subs      cells * K * C
+ *   codes     n * n_sub
+ *   work      n + 1024        scratch; may hold anything, and is zero after 0 and 10
+ *
+ * A search of such an index is not answered 10, and finds no row twice. The centres are not looked
+ * at: a search answers 11 where a distance from one is not finite, and other damage to a centre
+ * cannot be seen.
  */
 uint32_t bergrosk_celled_check(
     size_t d, size_t n_sub, size_t sub_bits, size_t cells, size_t probes, size_t n,
@@ -250,10 +257,10 @@ uint32_t bergrosk_celled_check(
     uint32_t *work, size_t work_len);
 
 /*
- * Finds the k visible rows whose codes are nearest to a query, among the rows of the cells that it
- * probes. These are so many cells, of those whose centres are nearest to the query, of equal ones
- * the lower; one without rows counts too. Each search may have its own number of probes: more find
- * more of the nearest rows, and take longer; with probes = cells all visible rows are scored.
+ * Finds the k visible rows whose codes are nearest to a query, among the rows of some cells. It
+ * probes as many cells as `probes` says, those whose centres are nearest to the query, of equally
+ * near ones the lower; a cell without rows counts too. Each search may have its own number: with
+ * more probes more rows are scored, which takes longer; with probes = cells all visible rows are.
  *
  *   query     d               the query
  *   mask      n               a row is visible where its byte is not 0
@@ -269,10 +276,11 @@ uint32_t bergrosk_celled_check(
  * After 1 to 6 come, in this order:
  *
  *   10  the starts do not go from 0 to n, or fall
- *   11  the distance to the centre of a cell, probed or not
- *   10  in a probed cell: a list that does not rise strictly, a member not below n, or a visible
- *       row's code not below K
- *   11  in a probed cell that has a visible row: a table entry, or a visible row's sum
+ *   11  the distance to the centre of a cell, probed or not, is not finite
+ *   10  a probed cell has a list that does not rise strictly, a member not below n, or a visible
+ *       row with a code not below K
+ *   11  a probed cell that has a visible row has a table entry, or a visible row's sum, that is not
+ *       finite
  *
  * The lists of other cells are not looked at. So in an index that the check does not accept, a row
  * that stands in several lists can be found several times.

@@ -398,8 +398,7 @@ static void damaged_members(void) {
         EXPECT_AT(i, checked(c, 10) && search_refused(c, 10));
         c.m.mask[1] = c.m.mask[3] = 0;
         EXPECT_AT(i, search_refused(c, 10));
-        c.m.query[0] = 8;
-        c.m.subs[4] = 0, c.m.subs[5] = 2;
+        c.m.query[0] = 8; /* now cell 1 is the nearest */
         EXPECT_AT(i, search(&c).number == 0);
         c.probes = 3;
         EXPECT_AT(i, search_refused(c, 10));

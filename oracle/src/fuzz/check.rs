@@ -58,6 +58,7 @@ pub fn check(call: &Call, manner: Manner, lender: &mut Lender) -> Outcome {
     lender.begin();
     let lent = call.buffers.lend(manner, lender);
     let heard = ask_library(call, &lent);
+    let unsound = unsound(call, heard, &lent);
     let mut left = call.buffers.clone();
     let right = ask_page(call, &mut left);
     let sides = sides(&call.buffers, &lent, &left);
@@ -65,9 +66,7 @@ pub fn check(call: &Call, manner: Manner, lender: &mut Lender) -> Outcome {
         true => None,
         false => Some(format!("document 01 answers {right:?}, the library {heard:?}")),
     };
-    let difference = unequal()
-        .or_else(|| unequal_buffers(heard.number(), &sides))
-        .or_else(|| unsound(call, heard, &lent));
+    let difference = unequal().or(unsound).or_else(|| unequal_buffers(heard.number(), &sides));
     Outcome { answer: heard.words(), difference }
 }
 
@@ -81,7 +80,8 @@ fn unequal_buffers(number: u32, sides: &[Side]) -> Option<String> {
     overrun.or_else(changed).or_else(|| sides.iter().find_map(Side::differs))
 }
 
-/// What the library's own check has against an index that the library trained.
+/// What the library's own check has against an index that the library trained. It leaves every buffer
+/// as the training must leave it.
 fn unsound(call: &Call, heard: Answer, lent: &Loans) -> Option<String> {
     if call.function != Function::CelledTrain || heard.number() != 0 {
         return None;
@@ -166,17 +166,15 @@ fn ask_page(call: &Call, b: &mut Buffers) -> Answer {
         Function::PlainLengths => Answer::PlainLengths(right_plain_lengths(&call.shape)),
         Function::CelledLengths => Answer::CelledLengths(right_celled_lengths(&call.shape)),
         Function::PlainTrain => {
-            let (sub_centres, codes, work) = (&mut b.subs[..], &mut b.codes[..], &mut b.work[..]);
-            let (rows, draws) = (&b.rows[..], &b.draws[..]);
             Answer::Trained(TrainAnswer::of(page::Page.train_plain(PlainTraining {
                 params: plain,
                 epochs,
                 n,
-                rows,
-                draws,
-                sub_centres,
-                codes,
-                work,
+                rows: &b.rows,
+                draws: &b.draws,
+                sub_centres: &mut b.subs,
+                codes: &mut b.codes,
+                work: &mut b.work,
             })))
         }
         Function::PlainSearch => {
