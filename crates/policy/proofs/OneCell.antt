@@ -29,7 +29,7 @@ use Rattle.cell_walk.specs.Results.{SearchOut, lentLengths, unchanged, blank}
 use Rattle.celled_lists.specs.Lists.{startsSound, listSound}
 use Rattle.celled_probe.specs.Probe.{finiteCells, nearestCells}
 use Rattle.plain_search.specs.Outcome.{SearchIn, wholeCell, searchLengths, searchRefusal, searchWorked, searchOutcome}
-use Rattle.celled_search.specs.Search.{Asked, startsGood, coarseFinite, probed, cellAt, membersAt, cellSound, probedSound, probedFinite, allCandidates}
+use Rattle.probed_cells.specs.Search.{Asked, startsGood, coarseFinite, probed, cellAt, membersAt, cellSound, probedSound, probedFinite, allCandidates}
 use Rattle.celled_search.specs.Outcome as Celled
 use Rattle.policy.specs.OneCell.{inOneCell, farness, EachF32}
 use Rattle.policy.proofs.Check.{long, list-sound}
