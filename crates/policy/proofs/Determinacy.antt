@@ -17,6 +17,9 @@ use Rattle.celled_search.specs.Outcome as CelledSearch
 pub use Rattle.lists.proofs.Determinacy.{part-determined}
 pub use Rattle.neighbor.proofs.Determinacy.{placed-once, inserted-once, merged-once, stored-once, last-stored-once}
 pub use Rattle.kmeans_split.proofs.Determinacy.{reached-determined, split-determined}
+pub use Rattle.cell_table.proofs.Determinacy.{tabled-once}
+pub use Rattle.cell_sums.proofs.Determinacy.{summed-once}
+pub use Rattle.policy.proofs.DeterminacyInner.{probed-determined, lists-determined, filled-determined}
 
 pub determined {ℓ κ} : {I : Type ℓ} {O : Type κ} (f : I → O) (i : I) (x y : O) → x ≡ f i → y ≡ f i → x ≡ y
 determined f i x y p q = p ∙ sym q

@@ -18,7 +18,7 @@ use Rattle.pq_params.proofs.Examples.{rangesTable, ranges-agree}
 use Rattle.kmeans.proofs.Examples.{kmeansTable, kmeans-examples}
 use Rattle.cell_walk.specs.Candidates.{cellFinite, candidates}
 use Rattle.cell_walk.specs.Results.{SearchOut, lent}
-use Rattle.plain_search.specs.Outcome.{SearchIn, searchWorked, searchOutcome}
+use Rattle.plain_search.specs.Outcome.{SearchIn, searchRefusal, searchWorked, searchOutcome}
 
 -- ---- a search in which rows 0 to 3 have the sums 4, 1, 4, 0.5
 
@@ -59,7 +59,7 @@ searchTable =
     ∷ []
 
 search-examples : agree searchTable ≡ true
-unfolding searchOutcome searchTests searchWorked cellFinite candidates anyNotFinite widthOf beginOf comesBefore insertBy insertAll squared sumTo tab every keep ofBits toBits add sub mul lt eq
+unfolding searchOutcome searchRefusal searchTests searchWorked cellFinite candidates anyNotFinite widthOf beginOf comesBefore insertBy insertAll squared sumTo tab every keep ofBits toBits add sub mul lt eq
 search-examples = refl
 
 -- ---- all of them

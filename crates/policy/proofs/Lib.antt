@@ -6,8 +6,10 @@ pub mod Policy
 pub mod PlainPolicy
 pub mod Twice
 pub mod PolicyExamples
+pub mod PlainExamples
 pub mod Examples
 pub mod Promised
+pub mod DeterminacyInner
 pub mod Determinacy
 pub mod LessZero
 pub mod OneCell

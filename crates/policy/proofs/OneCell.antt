@@ -20,7 +20,7 @@ use Rattle.metrics.specs.Distance.{zero32, coordinateIn, coordinate}
 use Rattle.metrics.proofs.Laws.{squared-ext}
 use Rattle.neighbor.specs.Neighbor.{insertBy, insertAll}
 use Rattle.pq_params.specs.Bounds.{badPlain}
-use Rattle.pq_params.specs.Lengths.{subsLong}
+use Rattle.pq_params.specs.Lengths.{subsLong, plainOf}
 use Rattle.pq_params.specs.Refusals.{notLong}
 use Rattle.pq_params.proofs.Refusing.{same-long, search-passed}
 use Rattle.cell_codes.specs.Codes.{codesSound}
@@ -29,7 +29,7 @@ use Rattle.cell_walk.specs.Results.{SearchOut, lentLengths, unchanged, blank}
 use Rattle.celled_lists.specs.Lists.{startsSound, listSound}
 use Rattle.celled_probe.specs.Probe.{finiteCells, nearestCells}
 use Rattle.plain_search.specs.Outcome.{SearchIn, wholeCell, searchLengths, searchRefusal, searchWorked, searchOutcome}
-use Rattle.celled_search.specs.Search.{Asked, startsGood, coarseFinite, probed, cellAt, membersAt, cellSound, probedSound, probedFinite, allCandidates}
+use Rattle.probed_cells.specs.Search.{Asked, startsGood, coarseFinite, probed, cellAt, membersAt, cellSound, probedSound, probedFinite, allCandidates}
 use Rattle.celled_search.specs.Outcome as Celled
 use Rattle.policy.specs.OneCell.{inOneCell, farness, EachF32}
 use Rattle.policy.proofs.Check.{long, list-sound}
@@ -60,8 +60,12 @@ same-bad : (b : Bool) → (b || false || false || false || false) ≡ b
 same-bad true = refl
 same-bad false = refl
 
+-- test 4 of the plain search
+abbrev lengthsOf : SearchIn → List Bool
+lengthsOf i = searchLengths (plainOf (i .shape) (i .n)) i
+
 module _ (i : SearchIn) where
-  same-wrong : anyOf (Celled.searchLengths (inOneCell i)) ≡ anyOf (searchLengths i)
+  same-wrong : anyOf (Celled.searchLengths (inOneCell i)) ≡ anyOf (lengthsOf i)
   same-wrong =
       rw (
         long (fill zero32 (i .shape .d)) (1 * i .shape .d) (length-tab (λ (j : ℕ). zero32) (i .shape .d) ∙ sym (one-mul (i .shape .d))),
@@ -72,6 +76,7 @@ module _ (i : SearchIn) where
       (lentLengths (i .lent) (i .shape)))
 
   same-refusal : Celled.searchRefusal (inOneCell i) ≡ searchRefusal i
+  unfolding searchRefusal
   same-refusal = rw (same-bad (badPlain (i .shape)), same-wrong)
 
 -- ---- the one cell is the plain index's
@@ -173,7 +178,8 @@ when-passed t o p u h = go (eqb t 0) (eqb-true t 0)
 
 module _ (i : SearchIn) where
   query-long : searchRefusal i ≡ 0 → length (i .query) ≡ i .shape .d
-  query-long e = same-long (i .query) (i .shape .d) (none (searchLengths i) (search-passed _ _ _ _ _ e .right) 0)
+  unfolding searchRefusal
+  query-long e = same-long (i .query) (i .shape .d) (none (lengthsOf i) (search-passed _ _ _ _ _ e .right) 0)
 
   -- The plain index is the celled one with one cell whose centre is zero, where the query's distance from zero is finite.
   pub one-cell : EachF32 (i .query) → (searchRefusal i ≡ 0 → finite (farness i) ≡ true) → Celled.searchOutcome (inOneCell i) ≡ searchOutcome i

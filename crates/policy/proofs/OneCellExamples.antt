@@ -11,7 +11,7 @@ use Rattle.pq_params.specs.Ranges.{widthOf, beginOf}
 use Rattle.pq_params.specs.Refusals.{anyNotFinite, searchTests}
 use Rattle.cell_walk.specs.Candidates.{cellFinite, candidates}
 use Rattle.cell_walk.specs.Results.{lent, searchOut, blank}
-use Rattle.plain_search.specs.Outcome.{SearchIn, searchWorked, searchOutcome}
+use Rattle.plain_search.specs.Outcome.{SearchIn, searchRefusal, searchWorked, searchOutcome}
 use Rattle.celled_search.specs.Outcome as Celled
 use Rattle.policy.specs.OneCell.{inOneCell}
 use Rattle.policy.proofs.OneCell.{one-cell-far}
@@ -33,9 +33,9 @@ far = record {
 }
 
 pub far-plain : searchOutcome far ≡ searchOut (Done 1 1) (0 ∷ []) (zero32 ∷ []) (zero32 ∷ [])
-unfolding searchOutcome searchTests searchWorked cellFinite candidates anyNotFinite widthOf beginOf comesBefore insertBy insertAll squared sumTo tab every keep ofBits add sub mul lt eq
+unfolding searchOutcome searchRefusal searchTests searchWorked cellFinite candidates anyNotFinite widthOf beginOf comesBefore insertBy insertAll squared sumTo tab every keep ofBits add sub mul lt eq
 far-plain = refl
 
 pub far-celled : Celled.searchOutcome (inOneCell far) ≡ blank (far .lent) 11
-unfolding searchTests anyNotFinite widthOf beginOf squared sumTo every ofBits add sub mul
+unfolding searchRefusal searchTests anyNotFinite widthOf beginOf squared sumTo every ofBits add sub mul
 far-celled = one-cell-far far refl refl

@@ -42,6 +42,7 @@ module _ (c : Cell) (codes : List ℕ) (alike : ShownAlike c codes) where
 
 module _ (a : SearchIn) (codes : List ℕ) (long : length (a .codes) ≡ length codes) (alike : CodesAlike (a .n) (a .mask) (a .shape .nsub) (a .codes) codes) where
   same-refusal : searchRefusal a ≡ searchRefusal (recoded a codes)
+  unfolding searchRefusal
   same-refusal = rw long
 
   same-outcome : searchOutcome a ≡ searchOutcome (recoded a codes)

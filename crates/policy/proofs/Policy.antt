@@ -15,7 +15,7 @@ use Rattle.cell_codes.specs.Codes.{visible, visibleRows}
 use Rattle.cell_walk.specs.Candidates.{cellFinite, candidates}
 use Rattle.cell_walk.specs.Results.{Lent, blank, answered}
 use Rattle.celled_lists.specs.Index.{Index}
-use Rattle.celled_search.specs.Search.{Asked, coarseFinite, probed, probedAt, cellAt, cellSound, probedSound, probedCell, probedFinite, allCandidates}
+use Rattle.probed_cells.specs.Search.{Asked, coarseFinite, probed, probedAt, cellAt, cellSound, probedSound, probedCell, probedFinite, allCandidates}
 use Rattle.celled_search.specs.Outcome.{SearchIn, searchIn, searchRefusal, searchWorked, searchOutcome}
 use Rattle.policy.specs.Check.{Passes, listAt}
 use Rattle.policy.specs.Sight.{InSight}

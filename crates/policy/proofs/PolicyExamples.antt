@@ -20,7 +20,7 @@ use Rattle.celled_lists.specs.Index.{Index}
 use Rattle.celled_lists.specs.Lists.{startsSound, listSound}
 use Rattle.celled_check.specs.Check.{CheckIn, CheckOut, checkIn, indexSound, checkOutcome}
 use Rattle.celled_probe.specs.Probe.{finiteCells, nearestCells}
-use Rattle.celled_search.specs.Search.{probedSound, probedFinite, allCandidates}
+use Rattle.probed_cells.specs.Search.{probedSound, probedFinite, allCandidates}
 use Rattle.celled_search.specs.Outcome.{SearchIn, searchIn, searchWorked, searchOutcome}
 use Rattle.policy.specs.Check.{Passes, listAt}
 use Rattle.policy.specs.Policy.{SameCells, SameCodes, AlikeInSight}

@@ -24,7 +24,7 @@ use Rattle.celled_lists.specs.Index.{Index}
 use Rattle.celled_lists.specs.Lists.{startOf}
 use Rattle.celled_lists.proofs.Starts.{starts-rise}
 use Rattle.celled_probe.specs.Probe.{cellCandidate, nearestCells}
-use Rattle.celled_search.specs.Search.{Asked, cellAt, coarseDistance, probed, probedAt, probedCell, coarseFinite, probedFinite, allCandidates}
+use Rattle.probed_cells.specs.Search.{Asked, cellAt, coarseDistance, probed, probedAt, probedCell, coarseFinite, probedFinite, allCandidates}
 use Rattle.celled_search.specs.Outcome.{SearchIn, searchRefusal, searchOutcome}
 use Rattle.policy.specs.Check.{Passes, HoldsAt, StandsIn, listAt}
 use Rattle.policy.specs.Results.{NoRowTwice}

@@ -3,7 +3,7 @@ use Prim.Native.Nat.{ℕ, _<_}
 use mathlib.Core.Path.{_≡_}
 use mathlib.Core.Logic.{_↔_}
 use Rattle.celled_lists.specs.Index.{Index}
-use Rattle.celled_search.specs.Search.{Asked}
+use Rattle.probed_cells.specs.Search.{Asked}
 use Rattle.celled_search.specs.Outcome.{SearchIn}
 use Rattle.policy.specs.Check.{Passes, StandsIn, listAt}
 use Rattle.policy.specs.Sight.{InSight, CodesAlike}
