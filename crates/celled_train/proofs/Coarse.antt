@@ -10,8 +10,8 @@ use Rattle.kmeans_assign.specs.Task.{Task, taskOf}
 use Rattle.kmeans_split.proofs.Runs.{NotDone}
 use Rattle.celled_fill.specs.FillInner.{coarseFrame, Rows, Lists}
 use Rattle.celled_fill.proofs.Coarse.{coarse-value}
-use Rattle.celled_train.specs.Training.{Given, coarseTask, coarseCenters}
-use Rattle.celled_train.specs.TrainInner.{Held, Cells}
+use Rattle.celled_cells.specs.Training.{Given, coarseTask, coarseCenters}
+use Rattle.celled_cells.specs.CellsInner.{Held, Cells}
 
 pub rows-held : {i : Given} {coarse : List Float} → Held i → length coarse ≡ i .shape .cells * i .shape .plain .d → Rows (i .shape) (i .n) (i .rows) coarse
 rows-held h e = record {

@@ -19,11 +19,12 @@ use Rattle.pq_train.proofs.Laws.{Refusal, refused-staged, not-both}
 use Rattle.celled_lists.specs.Index.{Index, indexOf}
 use Rattle.celled_fill.specs.Fill.{filledCodes}
 use Rattle.celled_fill.specs.FillInner.{Coding}
-use Rattle.celled_train.specs.Training.{Given, coarseTask, coarseAnswer, reachedCell}
+use Rattle.celled_cells.specs.Training.{Given, coarseTask, coarseAnswer, reachedCell}
 use Rattle.celled_train.specs.Outcome.{TrainIn, givenOf, trainOut, zeroIndex, trainDone, trainZero, trainEnded}
-use Rattle.celled_train.specs.TrainInner.{Held, Cells, CellsHeld, CellsTrained, Stepped, Cleared}
+use Rattle.celled_cells.specs.CellsInner.{Held, Cells, CellsHeld, CellsTrained}
+use Rattle.celled_train.specs.TrainInner.{Stepped, Cleared}
 use Rattle.celled_train.proofs.Coarse.{rows-held}
-use Rattle.celled_train.proofs.Cells.{celled, members-many, coarse-long, cells-refused}
+use Rattle.celled_cells.proofs.Cells.{celled, members-many, coarse-long, cells-refused}
 use Rattle.celled_train.proofs.Tied.{codes-tied}
 
 -- ---- refusals

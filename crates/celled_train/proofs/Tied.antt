@@ -11,8 +11,8 @@ use Rattle.pq_train.specs.Training.{subCenters}
 use Rattle.pq_train.proofs.Laws.{centers-part}
 use Rattle.celled_lists.proofs.CellLists.{in-cell}
 use Rattle.celled_fill.specs.Fill.{cellSubs, codeOf as filledBy, filledCodes}
-use Rattle.celled_train.specs.Training.{Given, rowOf, coarseCenters, cellOf, listOf, trainedCell, cellCenters, celledCode}
-use Rattle.celled_train.proofs.Cells.{centers-long, centers-evenly}
+use Rattle.celled_cells.specs.Training.{Given, rowOf, coarseCenters, cellOf, listOf, trainedCell, cellCenters, celledCode}
+use Rattle.celled_cells.proofs.Cells.{centers-long, centers-evenly}
 
 module _ (i : Given) where
   -- all sub-centres: how long they are, and those of cell c

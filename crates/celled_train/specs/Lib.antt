@@ -1,3 +1,2 @@
-pub mod Training
 pub mod Outcome
 pub mod TrainInner

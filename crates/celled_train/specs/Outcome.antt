@@ -18,7 +18,7 @@ use Rattle.pq_params.specs.Lengths.{celledOf}
 use Rattle.pq_params.specs.Refusals.{notLong, trainTests}
 use Rattle.celled_lists.specs.Cells.{filledStarts, filledMembers}
 use Rattle.celled_lists.specs.Index.{Index, lengthsOf, lengthTests}
-use Rattle.celled_train.specs.Training.{Given, coarseCenters, cellOf, reachedCell, cellCenters, celledCode}
+use Rattle.celled_cells.specs.Training.{Given, coarseCenters, cellOf, reachedCell, cellCenters, celledCode}
 
 -- ---- what a training is given, and what it leaves
 

@@ -7,7 +7,7 @@ use Rattle.lists.proofs.Tables.{take-fresh, length-tab}
 use Rattle.kmeans_split.specs.Run.{Run}
 use Rattle.kmeans.specs.Kmeans.{train}
 use Rattle.celled_fill.proofs.Coarse.{first-row, coarse-framed}
-use Rattle.celled_train.specs.TrainInner.{givenBy}
+use Rattle.celled_cells.specs.CellsInner.{givenBy}
 use Rattle.celled_train.proofs.Coarse.{rows-held, coarse-task}
 use Rattle.celled_train.proofs.train_coarse.Statement.{statement}
 use Rattle.celled_train.proofs.train_coarse.Tie as tie

@@ -6,8 +6,8 @@ use lib.ListN.{length}
 use lib.Seq.{length-take-le}
 use Rattle.kmeans_split.proofs.Runs.{told-not-done}
 use Rattle.pq_train.proofs.Laws.{told-refusal}
-use Rattle.celled_train.specs.Training.{Given}
-use Rattle.celled_train.specs.TrainInner.{givenBy}
+use Rattle.celled_cells.specs.Training.{Given}
+use Rattle.celled_cells.specs.CellsInner.{givenBy}
 use Rattle.celled_train.proofs.Steps.{coarse-refused, cell-refused, coarse-began, cells-held, coding, steps-done}
 use Rattle.celled_train.proofs.train_steps.Statement.{statement}
 use Rattle.celled_train.proofs.train_steps.Tie as tie

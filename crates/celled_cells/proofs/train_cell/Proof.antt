@@ -8,11 +8,11 @@ use lib.ListN.{length}
 use Rattle.lists.specs.Lists.{fill}
 use Rattle.lists.proofs.Parts.{slice-part}
 use Rattle.metrics.specs.Distance.{zero32}
-use Rattle.celled_train.specs.Training.{Given, listOf}
-use Rattle.celled_train.specs.TrainInner.{givenBy}
-use Rattle.celled_train.proofs.Cells.{starts-more, members-many, list-ends, list-inside, list-is, list-held, empty-cell}
-use Rattle.celled_train.proofs.train_cell.Statement.{statement}
-use Rattle.celled_train.proofs.train_cell.Tie as tie
+use Rattle.celled_cells.specs.Training.{Given, listOf}
+use Rattle.celled_cells.specs.CellsInner.{givenBy}
+use Rattle.celled_cells.proofs.Cells.{starts-more, members-many, list-ends, list-inside, list-is, list-held, empty-cell}
+use Rattle.celled_cells.proofs.train_cell.Statement.{statement}
+use Rattle.celled_cells.proofs.train_cell.Tie as tie
 
 abbrev begun : tie.Else1 → tie.Start
 begun c = c .before .before .before .before .before .before .before .before .before .before .before .before

@@ -16,7 +16,7 @@ use Rattle.kmeans_split.specs.SplitFacts.{Drawn}
 use Rattle.kmeans.specs.Kmeans.{train}
 use Rattle.kmeans.proofs.Reached.{train-drawn}
 use Rattle.pq_train.specs.Training.{Listed, taskOf, reached, answerOf}
-use Rattle.celled_train.specs.Training.{Given, coarseTask, listOf, cellRows, cellAnswer, reachedCell}
+use Rattle.celled_cells.specs.Training.{Given, coarseTask, listOf, cellRows, cellAnswer, reachedCell}
 
 abbrev Within : ℕ → Trained → Type 0
 Within n (Done used) = used ≤ n

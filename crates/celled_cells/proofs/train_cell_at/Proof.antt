@@ -6,8 +6,8 @@ use native.Mathlib.Omega.{arith}
 use lib.ListN.{length, length-take, length-drop}
 use Rattle.lists.specs.Lists.{putPart}
 use Rattle.lists.proofs.Joins.{within}
-use Rattle.celled_train.proofs.train_cell_at.Statement.{statement}
-use Rattle.celled_train.proofs.train_cell_at.Tie as tie
+use Rattle.celled_cells.proofs.train_cell_at.Statement.{statement}
+use Rattle.celled_cells.proofs.train_cell_at.Tie as tie
 
 -- the stretch lies within all sub-centres
 inside : (s : tie.Start) → s .args .c * s .args .long + s .args .long ≤ length (s .args .subs .now)

@@ -8,10 +8,10 @@ use lib.Seq.{length-take-le}
 use Rattle.lists.proofs.Parts.{part-rest}
 use Rattle.pq_train.specs.Training.{Listed}
 use Rattle.pq_train.specs.Inner.{listOutcome}
-use Rattle.celled_train.specs.TrainInner.{givenBy}
-use Rattle.celled_train.proofs.Cells.{list-listing, list-rows, list-cell}
-use Rattle.celled_train.proofs.train_listed.Statement.{statement}
-use Rattle.celled_train.proofs.train_listed.Tie as tie
+use Rattle.celled_cells.specs.CellsInner.{givenBy}
+use Rattle.celled_cells.proofs.Cells.{list-listing, list-rows, list-cell}
+use Rattle.celled_cells.proofs.train_listed.Statement.{statement}
+use Rattle.celled_cells.proofs.train_listed.Tie as tie
 
 slice-aggregate-train-list : tie.Need-slice-aggregate-train-list
 slice-aggregate-train-list c =

@@ -25,8 +25,8 @@ use Rattle.pq_train.specs.Inner.{stretchAt, listedOf, Listing, ListOut, listOut
 use Rattle.pq_train.proofs.Laws.{Refusal, centers-begin}
 use Rattle.celled_lists.proofs.CellLists.{list-row}
 use Rattle.celled_lists.proofs.Filled.{start-next, starts-long, members-long, list-within, list-part}
-use Rattle.celled_train.specs.Training.{Given, rowOf, coarseTask, cellOf, listOf, cellRows, cellAnswer, reachedCell, trainedCell, cellCenters}
-use Rattle.celled_train.specs.TrainInner.{cellListed, centerFrom, CellsHeld, ListHeld, CellTrained}
+use Rattle.celled_cells.specs.Training.{Given, rowOf, coarseTask, cellOf, listOf, cellRows, cellAnswer, reachedCell, trainedCell, cellCenters}
+use Rattle.celled_cells.specs.CellsInner.{cellListed, centerFrom, CellsHeld, ListHeld, CellTrained}
 
 abbrev withValue : Listed → (ℕ → ℕ → Float) → Listed
 withValue u v = record { shape = u .shape; epochs = u .epochs; draws = u .draws; cell = u .cell; n = u .n; value = v; used = u .used }

@@ -10,12 +10,12 @@ use Rattle.lists.proofs.Joins.{join-none, join-step, join-done}
 use Rattle.answers.specs.declared.Trained.the-variants.{Done}
 use Rattle.pq_params.specs.Lengths.{subsLong}
 use Rattle.pq_train.proofs.Laws.{Refusal, told-refusal, not-both}
-use Rattle.celled_train.specs.Training.{Given, reachedCell, cellCenters}
-use Rattle.celled_train.specs.TrainInner.{givenBy}
-use Rattle.celled_train.proofs.Cells.{centers-long, centers-evenly, cells-refused}
-use Rattle.celled_train.proofs.Draws.{cells-drawn}
-use Rattle.celled_train.proofs.train_cells.Statement.{statement}
-use Rattle.celled_train.proofs.train_cells.Tie as tie
+use Rattle.celled_cells.specs.Training.{Given, reachedCell, cellCenters}
+use Rattle.celled_cells.specs.CellsInner.{givenBy}
+use Rattle.celled_cells.proofs.Cells.{centers-long, centers-evenly, cells-refused}
+use Rattle.celled_cells.proofs.Draws.{cells-drawn}
+use Rattle.celled_cells.proofs.train_cells.Statement.{statement}
+use Rattle.celled_cells.proofs.train_cells.Tie as tie
 
 abbrev Inv-loop : tie.InvT-loop
 Inv-loop l rows draws coarse starts members start subs₀ assigned₀ long used₀ c₀ c-end subs assigned used c =
