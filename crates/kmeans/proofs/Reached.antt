@@ -4,13 +4,12 @@ use mathlib.Core.Path.{_≡_, refl}
 use native.Mathlib.Omega.{arith}
 use lib.ListN.{length}
 use lib.Dec.{ltb}
-use lib.Ieee.{up}
 use Rattle.lists.proofs.Joins.{length-grid}
 use Rattle.lists.proofs.Tables.{length-tab, getD-tab}
 use Rattle.answers.specs.declared.Clustered.{Clustered}
 use Rattle.answers.specs.declared.Clustered.the-variants.{Done, OutOfDraws, NotFinite}
 use Rattle.kmeans_assign.specs.Task.{Task}
-use Rattle.kmeans_split.specs.Run.{Run, onwardBy, onwardBy}
+use Rattle.kmeans_split.specs.Run.{Run, onwardBy}
 use Rattle.kmeans_average.specs.Average.{countAt, averagesOf, averageAt}
 use Rattle.kmeans_assign.specs.Assign.{chosenAt, assignedOf}
 use Rattle.kmeans_average.specs.Finite.{lowestBroken}

@@ -63,7 +63,7 @@ averaged-done t epoch used at r q e d = go (ltb (lowestBroken (averagesOf t (ass
     go true h = let z : _≡_ {A = ℕ} 0 1 = cc in absurd (omega arith)
     go false h = cc
 
--- the same of the epochs: one more, and a refusal, from which on nothing changes
+-- one more epoch, and a refusal, from which on nothing changes
 pub epochs-step : (t : Task) (used at e : ℕ) (q p : Run) → q ≡ epochsTo t used e → q .answer ≡ Done at → p ≡ epochOf t (e + 1) q at → p ≡ epochsTo t used (e + 1)
 unfolding epochsTo
 epochs-step t used at e q p g d f = (rw add-one at f) ∙ rw (add-one, ← g, d)

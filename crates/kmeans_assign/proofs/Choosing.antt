@@ -1,15 +1,12 @@
 -- The nearest of some centres: what it depends on, and one more centre.
-use Prim.Native.Nat.{ℕ, zero, suc, _+_, _*_, _≤_, _<_}
+use Prim.Native.Nat.{ℕ, zero, suc, _+_, _≤_, _<_}
 use mathlib.Core.Path.{_≡_, refl, ap}
 use mathlib.Core.Bool.{Bool, true, false, cond}
 use mathlib.Core.List.{List}
 use native.Mathlib.Omega.{arith}
 use native.Mathlib.Numerals.{add-one}
-use lib.ListN.{length}
-use lib.Ieee.{Float, nan}
-use Rattle.lists.specs.Lists.{Part}
-use Rattle.lists.proofs.Parts.{getD-part}
-use Rattle.metrics.specs.Distance.{worked, distance, coordinateIn, coordinate}
+use lib.Ieee.{Float}
+use Rattle.metrics.specs.Distance.{worked, distance, coordinate}
 use Rattle.metrics.specs.declared.Worked.{Worked}
 use Rattle.metrics.proofs.Laws.{squared-ext}
 use Rattle.kmeans_assign.specs.Assign.{lessOf, nearest, distanceTo, chosen}
@@ -58,8 +55,3 @@ distance-ext x y c d w e f = ap worked (squared-ext x y c d w e f)
 pub chosen-ext : (x y : ℕ → Float) (cs : List Float) (w n : ℕ) → ((j : ℕ) → j < w → x j ≡ y j) → chosen x cs w n ≡ chosen y cs w n
 chosen-ext x y cs w n e =
     nearest-ext (distanceTo x cs w) (distanceTo y cs w) n (λ i. distance-ext x y (coordinate cs w i) (coordinate cs w i) w e (λ j h. refl))
-
--- a slice that is the stretch of centre i is that centre
-pub stretch-distance : (x : ℕ → Float) (cs c : List Float) (i w : ℕ) → Part cs (i * w) w c → distance x (coordinateIn c) (length c) ≡ distanceTo x cs w i
-stretch-distance x cs c i w p =
-    rw (p .long) (distance-ext x x (coordinateIn c) (coordinate cs w i) w (λ j h. refl) (λ j h. rw (p .is) (getD-part cs (i * w) w j nan h)))

@@ -1,5 +1,5 @@
 -- A row's range lies within the rows and holds the row's values.
-use Prim.Native.Nat.{ℕ, _+_, _*_, _≤_, _<_}
+use Prim.Native.Nat.{ℕ, _+_, _*_, _<_}
 use mathlib.Core.Path.{_≡_, ap}
 use mathlib.Core.List.{List}
 use native.Mathlib.Omega.{arith}
@@ -9,14 +9,14 @@ use Rattle.lists.specs.Lists.{Part, memberOf}
 use Rattle.lists.proofs.Parts.{getD-part}
 use Rattle.metrics.specs.Distance.{valueIn, valueOf}
 use Rattle.kmeans_assign.specs.declared.Frame.{Frame}
-use Rattle.kmeans_assign.specs.Task.{valueAt, Framed}
+use Rattle.kmeans_assign.specs.Task.{valueAt, Framed, RowHeld}
 use Rattle.kmeans_assign.specs.Assign.{chosen}
 use Rattle.kmeans_assign.proofs.Choosing.{chosen-ext}
 
--- the range of a row lies within the rows
-pub row-held : {f : Frame} {rows : List Float} {members : List ℕ} {residual : List Float} (k m : ℕ) → Framed f rows members residual → k < f .n
-    → m ≡ memberOf (f .listed) members k → m * f .d + f .begin + f .w ≤ length rows
-row-held k m s h e = rw e (omega (arith, s .held k h, s .inside))
+-- the range of each row of a frame lies within the rows
+pub row-held : {f : Frame} {rows : List Float} {members : List ℕ} {residual : List Float} {k : ℕ} → Framed f rows members residual → k < f .n
+    → RowHeld f rows members k
+row-held {k = k} s h = record { listed-long = λ e. omega (arith, s .listed-long e); held = omega (arith, s .held k h, s .inside) }
 
 -- the slice of a row's range holds the row's values
 pub row-value : {rows x : List Float} (f : Frame) (members : List ℕ) (residual : List Float) (k j : ℕ) → Part rows (memberOf (f .listed) members k * f .d + f .begin) (f .w) x

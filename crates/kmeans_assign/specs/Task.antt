@@ -52,3 +52,8 @@ pub record Framed (f : Frame) (rows : List Float) (members : List ℕ) (residual
   pub residual-long : length residual ≡ f .w
   pub listed-long : f .listed ≡ true → f .n ≤ length members
   pub held : (k : ℕ) → k < f .n → memberOf (f .listed) members k * f .d + f .d ≤ length rows
+
+-- the range of row k lies within the rows
+pub record RowHeld (f : Frame) (rows : List Float) (members : List ℕ) (k : ℕ) : Type 0 where
+  pub listed-long : f .listed ≡ true → k < length members
+  pub held : memberOf (f .listed) members k * f .d + f .begin + f .w ≤ length rows

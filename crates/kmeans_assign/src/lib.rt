@@ -4,7 +4,7 @@ ghost use Prim.Native.Nat.{_+_, _*_, _≤_, _<_};
 ghost use lib.ListN.{length};
 ghost use Rattle.lists.specs.Lists.{Part, memberOf};
 ghost use Rattle.metrics.specs.Distance.{valueIn};
-ghost use Rattle.kmeans_assign.specs.Task.{Framed, rowTask};
+ghost use Rattle.kmeans_assign.specs.Task.{Framed, RowHeld, rowTask};
 ghost use Rattle.kmeans_assign.specs.Assign.{lessOf, distanceTo, chosen, assignedOf};
 use metrics::Worked;
 
@@ -21,15 +21,8 @@ pub struct Frame {
 }
 
 // The range of the k-th row.
-pub fn row_range<'a>(
-    f: Frame,
-    rows: &'a [f32],
-    members: &[u32],
-    residual: &[f32],
-    k: usize,
-) -> &'a [f32]
-    requires { ⌜ Framed f (now rows) (now members) (now residual) ⌝ }
-    requires { ⌜ k < f .n ⌝ }
+pub fn row_range<'a>(f: Frame, rows: &'a [f32], members: &[u32], k: usize) -> &'a [f32]
+    requires { ⌜ RowHeld f (now rows) (now members) k ⌝ }
     ensures { λ r.
         let m = memberOf (f .listed) (now (members .entry)) k in
         ⌜ Part (now (rows .entry)) (m * f .d + f .begin) (f .w) (now r) ⌝ }
@@ -98,7 +91,7 @@ pub fn search_data(
         ⌜ now (assigned .exit) ≡ assignedOf t (now (centers .entry)) ⌝ }
 {
     for k in 0..f.n {
-        let x = row_range(f, rows, members, residual, k);
+        let x = row_range(f, rows, members, k);
         let c = nearest(x, residual, f.has, centers, f.centers);
         assigned[k] = c as u32;
     }

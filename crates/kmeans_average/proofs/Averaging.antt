@@ -1,4 +1,4 @@
--- Step 4: sums and counts of one more row, and the averages from them.
+-- Step 4: sums of one more row, and the averages from them.
 use Prim.Native.Nat.{ℕ, _+_, _*_, _<_}
 use native.Mathlib.Nat.{lt-of-lt-of-le}
 use mathlib.Core.Path.{_≡_, refl, sym, _∙_, ap}
@@ -6,19 +6,17 @@ use mathlib.Core.Bool.{Bool}
 use mathlib.Core.List.{List, _++_}
 use native.Mathlib.Omega.{arith}
 use native.Mathlib.Numerals.{add-one}
-use lib.ListN.{length, getD, set, drop}
+use lib.ListN.{length, getD, drop}
 use lib.Ieee.{Float, nan, binary32, add}
 use borrow.Author.Tests.{eq-eqb, ne-eqb}
 use Rattle.lists.specs.Lists.{part, putPart, tab, grid}
-use Rattle.lists.specs.Tests.{count}
-use Rattle.lists.proofs.Tests.{count-yes, count-no}
-use Rattle.lists.proofs.Tables.{length-tab, tab-ext, getD-tab, tab-set}
+use Rattle.lists.proofs.Tables.{length-tab, tab-ext, getD-tab}
 use Rattle.lists.proofs.Joins.{grid-ext, part-grid, put-grid, getD-grid, grid-rest}
 use Rattle.lists.proofs.Parts.{getD-part}
 use Rattle.metrics.specs.Distance.{valueIn}
 use Rattle.kmeans_assign.specs.declared.Frame.{Frame}
 use Rattle.kmeans_assign.specs.Task.{taskOf, rowTask, Task}
-use Rattle.kmeans_average.specs.Average.{Assigned, isOf, countAt, sumWhere, averageAt, averagesOf, countsOf}
+use Rattle.kmeans_average.specs.Average.{Assigned, countAt, sumWhere, averageAt, averagesOf, countsOf}
 use Rattle.kmeans_start.specs.Start.{meanOf}
 use Rattle.kmeans_assign.specs.Assign.{assignedOf, chosenAt}
 use Rattle.kmeans_assign.proofs.Choosing.{nearest-lt}
@@ -35,13 +33,6 @@ module _ (t : Task) (to : List ℕ) (k : ℕ) where
   unfolding sumWhere
   other-sum i h j = rw (add-one, ne-eqb (getD to k 0) i (λ e. h (sym e)))
 
-module _ (to : List ℕ) (k : ℕ) where
-  own-count : count (isOf to (getD to k 0)) (k + 1) ≡ count (isOf to (getD to k 0)) k + 1
-  own-count = rw (add-one k, add-one) (count-yes (isOf to (getD to k 0)) k (eq-eqb (getD to k 0) (getD to k 0) refl))
-
-  other-count : (i : ℕ) → (i ≡ getD to k 0 → ⊥) → count (isOf to i) k ≡ count (isOf to i) (k + 1)
-  other-count i h = rw add-one (sym (count-no (isOf to i) k (ne-eqb (getD to k 0) i (λ e. h (sym e)))))
-
 pub center-step : (t : Task) (to : List ℕ) (k n w a : ℕ) (centers x r : List Float) (has : Bool) → a < n → a ≡ getD to k 0
     → centers ≡ grid (centerSum t to k) n w → ((j : ℕ) → j < w → valueIn has x r j ≡ t .value k j)
     → addedTo centers a w has x r ≡ grid (centerSum t to (k + 1)) n w
@@ -53,16 +44,6 @@ center-step t to k n w a centers x r has h p e f =
   where
     row : (j : ℕ) → j < w → addedAt (part (grid (centerSum t to k) n w) (getD to k 0 * w) w) has x r j ≡ centerSum t to (k + 1) (getD to k 0) j
     row j l = rw (part-grid (centerSum t to k) n w (getD to k 0) (omega arith), getD-tab _ w j nan l, f j l, own-sum t to k j)
-
--- the rows of each centre, of the first k rows
-abbrev pub countTo : List ℕ → ℕ → ℕ → ℕ
-countTo to k i = count (isOf to i) k
-
-pub count-step : (to : List ℕ) (k n a : ℕ) (counts : List ℕ) → a < n → a ≡ getD to k 0 → counts ≡ tab (countTo to k) n
-    → set counts a (getD counts a 0 + 1) ≡ tab (countTo to (k + 1)) n
-count-step to k n a counts h p e =
-    let q : getD counts a 0 + 1 ≡ countTo to (k + 1) (getD to k 0) = rw (p, e, getD-tab (countTo to k) n (getD to k 0) 0 (omega arith)) (sym (own-count to k)) in
-    rw (q, p, e) (tab-set (countTo to k) (countTo to (k + 1)) n (getD to k 0) (omega arith) (other-count to k))
 
 -- the means of the sums are the averages
 pub means-average : (t : Task) (to : List ℕ) (cs : List Float) (counts : List ℕ) → cs ≡ grid (centerSum t to (t .n)) (t .centers) (t .w) → counts ≡ countsOf t to

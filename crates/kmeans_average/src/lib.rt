@@ -51,7 +51,7 @@ fn accumulate(
         ⌜ (now (centers .exit) ≡ sums) × (now (counts .exit) ≡ countsOf t to) ⌝ }
 {
     for k in 0..f.n {
-        let x = kmeans_assign::row_range(f, rows, members, residual, k);
+        let x = kmeans_assign::row_range(f, rows, members, k);
         let a = lists::wide(assigned[k]);
         add_to_center(centers, a, x, residual, f.has);
         count_one(counts, a);

@@ -7,7 +7,6 @@ use native.Mathlib.Omega.{arith}
 use borrow.Author.Tests.{eq-eqb, ne-eqb}
 use lib.ListN.{length, getD, set, length-set}
 use lib.Seq.{getD-set-same, getD-set-other}
-use lib.Ieee.{up}
 use Rattle.lists.specs.Lists.{tab}
 use Rattle.lists.specs.Tests.{count}
 use Rattle.lists.proofs.Tables.{length-tab, getD-tab, tab-set}

@@ -1,21 +1,9 @@
 -- The donor walk goes round the centres, and the donor is another centre that has rows.
-use Prim.Native.Nat.{ℕ, zero, _+_, _*_, _%_, _<_}
-use native.Mathlib.Nat.{mod-add-mod}
-use mathlib.Core.Path.{_≡_, refl, sym, _∙_}
-use mathlib.Core.Bool.{Bool, true, false, cond}
-use mathlib.Core.List.{List}
-use native.Mathlib.Omega.{arith}
-use lib.ListN.{getD}
-use lib.Ieee.{Float, nan}
-use borrow.Author.Tests.{le-ltb}
-use Rattle.lists.proofs.Tests.{and-l, first-hit}
-use Rattle.kmeans_assign.specs.Task.{Task}
-use Rattle.kmeans_split.specs.Split.{walkAt, stepsOf, drawsLeft, takenAt, NotNegative}
-use Prim.Native.Nat.{ℕ, zero, _+_, _*_, _/_, _<_}
+use Prim.Native.Nat.{ℕ, _+_, _*_, _%_, _<_}
 use mathlib.Core.Path.{_≡_, refl, sym, _∙_}
 use mathlib.Core.List.{List}
 use mathlib.Core.Bool.{Bool, true, false, cond, true≢false}
-use native.Mathlib.Nat.{zero-mul, mod-lt, mul-pos}
+use native.Mathlib.Nat.{zero-mul, mod-lt, mul-pos, mod-add-mod}
 use native.Mathlib.Omega.{arith}
 use borrow.Author.Tests.{le-ltb, eqb-true, eqb-false}
 use lib.ListN.{getD}
@@ -24,6 +12,9 @@ use lib.IntN.{ℤ, pos}
 use lib.Ieee.{Float, nan, inf, fin, binary64, up, down, unlike, lt, eq, le, div, round, ofInt, ofBits}
 use lib.Ieee.Fits.{up-pos}
 use lib.Ieee.Scale.{round-same}
+use Rattle.lists.proofs.Tests.{and-l, first-hit}
+use Rattle.kmeans_assign.specs.Task.{Task}
+use Rattle.kmeans_split.specs.Split.{walkAt, stepsOf, drawsLeft, takenAt, NotNegative}
 use Rattle.kmeans_split.specs.SplitFacts.{DonorOf}
 
 -- the donor walk's next step

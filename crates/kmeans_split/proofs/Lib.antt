@@ -3,3 +3,4 @@ pub mod Runs
 pub mod Counts
 pub mod Donor
 pub mod Keeping
+pub mod Determinacy

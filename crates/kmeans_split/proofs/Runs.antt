@@ -11,7 +11,6 @@ use native.Mathlib.Decide.{decLe}
 use native.Mathlib.Omega.{arith}
 use native.Mathlib.Numerals.{add-one}
 use lib.Ieee.{Float}
-use lib.Ieee.Scale.{finite}
 use borrow.Author.Tests.{lt-ltb, le-ltb}
 use Rattle.answers.specs.declared.Step.the-variants.{Splitting}
 use Rattle.answers.specs.declared.Clustered.{Clustered}
@@ -20,7 +19,7 @@ use Rattle.kmeans_assign.specs.declared.Frame.{Frame}
 use Rattle.kmeans_assign.specs.Task.{taskOf, Task}
 use Rattle.kmeans_average.specs.Finite.{finiteCenter}
 use Rattle.kmeans_split.specs.Split.{splitCenters, splitCounts, splitOff, walkAt, stepsOf, drawsLeft, fillCenter, fillIfEmpty, splitTo, splitTask}
-use Rattle.kmeans_split.specs.Run.{Run, answered, onwardBy, onwardBy, Reached, runOf}
+use Rattle.kmeans_split.specs.Run.{Run, runOf, answered, onwardBy, Reached}
 
 -- a run that equals a definition's says what that one says
 pub reached : {r d : Run} → r ≡ d → Reached r d
@@ -87,7 +86,7 @@ pub split-none : (t : Task) (epoch : ℕ) (r : Run) → splitTo t epoch r 0 ≡ 
 unfolding splitTo
 split-none t epoch r = refl
 
--- splitting does not look at the rows, averaging not at the draws
+-- splitting looks at no rows
 pub split-same : (f : Frame) (rows : List Float) (members : List ℕ) (residual draws : List Float) (epochs epoch : ℕ) (r : Run) (i : ℕ)
     → splitTo (splitTask f draws) epoch r i ≡ splitTo (taskOf f rows members residual epochs draws) epoch r i
 unfolding splitTo fillCenter splitOff

@@ -19,6 +19,10 @@ pub record Run : Type 0 where
 abbrev pub runOf : Clustered → List Float → List ℕ → List ℕ → Run
 runOf answer centers assigned counts = record { answer = answer; centers = centers; assigned = assigned; counts = counts }
 
+-- the same, for rows that are assigned to the centres `to`: what step 5 does not see
+abbrev pub runWith : Clustered → List Float → List ℕ → List ℕ → Run
+runWith answer centers counts to = runOf answer centers to counts
+
 -- with another answer
 abbrev pub answered : Clustered → Run → Run
 answered c r = record { answer = c; centers = r .centers; assigned = r .assigned; counts = r .counts }

@@ -9,7 +9,7 @@ ghost use lib.IntN.{pos};
 ghost use lib.Ieee.{mul, div, ofInt, binary32, binary64};
 ghost use Rattle.lists.specs.Lists.{tab, putPart};
 ghost use Rattle.metrics.specs.Distance.{coordinate};
-ghost use Rattle.kmeans_split.specs.Run.{Run, runOf, Reached};
+ghost use Rattle.kmeans_split.specs.Run.{runWith, Reached};
 ghost use Rattle.kmeans_split.specs.Split.{down32, up32, gotAt, splitCenters, splitCounts, stepsOf, splitOff};
 ghost use Rattle.kmeans_split.specs.Split.{fillCenter, fillIfEmpty, splitTo, splitTask, Splittable};
 ghost use Rattle.kmeans_split.specs.SplitInner.{leftIn};
@@ -124,8 +124,8 @@ fn split_off(
     requires { ⌜ (f .centers ≤ 1024) × (i < f .centers) × (a < f .centers) × (a ≡ i → ⊥)
         × (length (now centers) ≡ f .centers * f .w) × (length (now counts) ≡ f .centers) ⌝ }
     ensures { λ r.
-        let before : List ℕ → Run = λ to. runOf (Clustered.Done used) (now (centers .entry)) to (now (counts .entry)) in
-        let after : List ℕ → Run = λ to. runOf r (now (centers .exit)) to (now (counts .exit)) in
+        let before = runWith (Clustered.Done used) (now (centers .entry)) (now (counts .entry)) in
+        let after = runWith r (now (centers .exit)) (now (counts .exit)) in
         ⌜ ((to : List ℕ) → after to ≡ splitOff (splitTask f []) epoch i a used (before to)) ⌝ }
 {
     split_coordinates(centers, f.w, i, a);
@@ -156,8 +156,8 @@ fn fill_center(
     requires { ⌜ Splittable f (now draws) used (now centers) (now counts) ⌝ }
     requires { ⌜ (i < f .centers) × (getD (now counts) i 0 ≡ 0) ⌝ }
     ensures { λ r.
-        let before : List ℕ → Run = λ to. runOf (Clustered.Done used) (now (centers .entry)) to (now (counts .entry)) in
-        let after : List ℕ → Run = λ to. runOf r (now (centers .exit)) to (now (counts .exit)) in
+        let before = runWith (Clustered.Done used) (now (centers .entry)) (now (counts .entry)) in
+        let after = runWith r (now (centers .exit)) (now (counts .exit)) in
         let t = splitTask f (now (draws .entry)) in
         ⌜ ((to : List ℕ) → after to ≡ fillCenter t epoch i used (before to)) ⌝ }
 {
@@ -186,8 +186,8 @@ fn fill_if_empty(
     requires { ⌜ Splittable f (now draws) used (now centers) (now counts) ⌝ }
     requires { ⌜ i < f .centers ⌝ }
     ensures { λ r.
-        let before : List ℕ → Run = λ to. runOf (Clustered.Done used) (now (centers .entry)) to (now (counts .entry)) in
-        let after : List ℕ → Run = λ to. runOf r (now (centers .exit)) to (now (counts .exit)) in
+        let before = runWith (Clustered.Done used) (now (centers .entry)) (now (counts .entry)) in
+        let after = runWith r (now (centers .exit)) (now (counts .exit)) in
         let t = splitTask f (now (draws .entry)) in
         ⌜ ((to : List ℕ) → after to ≡ fillIfEmpty t epoch i (before to) used) ⌝ }
 {
@@ -209,8 +209,8 @@ pub fn split_center(
 ) -> Clustered
     requires { ⌜ Splittable f (now draws) used (now centers) (now counts) ⌝ }
     ensures { λ r.
-        let before : List ℕ → Run = λ to. runOf (Clustered.Done used) (now (centers .entry)) to (now (counts .entry)) in
-        let after : List ℕ → Run = λ to. runOf r (now (centers .exit)) to (now (counts .exit)) in
+        let before = runWith (Clustered.Done used) (now (centers .entry)) (now (counts .entry)) in
+        let after = runWith r (now (centers .exit)) (now (counts .exit)) in
         let t = splitTask f (now (draws .entry)) in
         ⌜ ((to : List ℕ) → Reached (after to) (splitTo t epoch (before to) (f .centers))) ⌝ }
 {

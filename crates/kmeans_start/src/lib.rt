@@ -32,7 +32,7 @@ fn sum_rows(f: Frame, rows: &[f32], members: &[u32], residual: &[f32], sums: &mu
         ⌜ now (sums .exit) ≡ tab (columnSum t (f .n)) (f .w) ⌝ }
 {
     for k in 0..f.n {
-        let x = kmeans_assign::row_range(f, rows, members, residual, k);
+        let x = kmeans_assign::row_range(f, rows, members, k);
         add_into(sums, x, residual, f.has);
     }
 }

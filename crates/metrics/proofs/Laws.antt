@@ -1,16 +1,20 @@
 -- Laws on sums, distances and marks.
 use Prim.Native.Nat.{ℕ, zero, suc, _*_, _<_}
-use mathlib.Core.Path.{_≡_, refl, sym, ap₂}
+use mathlib.Core.Path.{_≡_, refl, sym, ap, ap₂}
 use mathlib.Core.Bool.{Bool, true, false}
+use mathlib.Core.List.{List}
 use native.Mathlib.Nat.{le-refl, sub-self, zero-mul, mul-pos}
 use native.Mathlib.Omega.{arith}
 use borrow.Author.Tests.{le-ltb}
 use lib.Dec.{lit<}
+use lib.ListN.{length}
 use lib.IntN.{ℤ}
 use lib.Ieee.{Float, nan, inf, fin, binary32, add, sub, eq, neg, ofBits, round, up, down}
 use lib.Ieee.Fits.{down-pos}
 use lib.Ieee.Scale.{finite, round-same}
-use Rattle.metrics.specs.Distance.{sumTo, termAt, squared, worked}
+use Rattle.lists.specs.Lists.{Part}
+use Rattle.lists.proofs.Parts.{getD-part}
+use Rattle.metrics.specs.Distance.{sumTo, coordinateIn, coordinate, termAt, squared, worked, distance}
 use Rattle.metrics.specs.declared.Worked.the-variants.{Finite, NotFinite}
 
 pub sum-ext : (f g : ℕ → Float) (n : ℕ) → ((j : ℕ) → j < n → f j ≡ g j) → sumTo f n ≡ sumTo g n
@@ -22,6 +26,11 @@ sum-ext f g (suc n) e = ap₂ (add binary32) (sum-ext f g n (λ j h. e j (omega 
 pub squared-ext : (x y c d : ℕ → Float) (w : ℕ) → ((j : ℕ) → j < w → x j ≡ y j) → ((j : ℕ) → j < w → c j ≡ d j) → squared x c w ≡ squared y d w
 unfolding squared
 squared-ext x y c d w e f = sum-ext (termAt x c) (termAt y d) w (λ j h. rw (e j h, f j h))
+
+-- a slice that is the stretch of centre i is that centre
+pub stretch-distance : (x : ℕ → Float) (cs c : List Float) (i w : ℕ) → Part cs (i * w) w c → distance x (coordinateIn c) (length c) ≡ distance x (coordinate cs w i) w
+stretch-distance x cs c i w p =
+    rw (p .long) (ap worked (squared-ext x x (coordinateIn c) (coordinate cs w i) w (λ j h. refl) (λ j h. rw (p .is) (getD-part cs (i * w) w j nan h))))
 
 -- a mark is what is not finite
 pub worked-finite : (x : Float) → finite x ≡ true → Finite x ≡ worked x
@@ -35,6 +44,26 @@ unfolding worked
 worked-not nan e = refl
 worked-not (inf s) e = refl
 worked-not (fin s m e) h = cc
+
+-- what is marked is not finite
+pub marked : (x : Float) → worked x ≡ NotFinite → finite x ≡ false
+unfolding worked
+marked nan e = refl
+marked (inf s) e = refl
+marked (fin s m k) e = cc
+
+-- what is not marked is finite, and is what the answer carries
+pub unmarked : (x v : Float) → worked x ≡ Finite v → finite x ≡ true
+unfolding worked
+unmarked nan v e = cc
+unmarked (inf s) v e = cc
+unmarked (fin s m k) v e = refl
+
+pub carried : (x v : Float) → worked x ≡ Finite v → v ≡ x
+unfolding worked
+carried nan v e = cc
+carried (inf s) v e = cc
+carried (fin s m k) v e = cc
 
 -- x − x is a zero exactly where x is finite
 round-zero : (s : Bool) (e : ℤ) → round binary32 s 0 (down e * down e) ≡ round binary32 s 0 1

@@ -22,12 +22,12 @@ pub fn is_finite(x: f32) -> bool
 pub fn all_finite(s: &[f32]) -> bool
     ensures { λ r. ⌜ r ≡ every (finiteIn (now (s .entry))) (length (now (s .entry))) ⌝ }
 {
+    let mut all = true;
     for j in 0..s.len() {
-        if !is_finite(s[j]) {
-            return false;
-        }
+        let finite = is_finite(s[j]);
+        all = all & finite;
     }
-    true
+    all
 }
 
 // A coordinate's value: x, or x less the residual.

@@ -10,4 +10,5 @@ pub mod Held
 pub mod Filling
 pub mod Merging
 pub mod Offering
+pub mod Determinacy
 pub mod Examples

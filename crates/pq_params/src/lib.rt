@@ -1,7 +1,7 @@
 // The numbers of an index with the Rust's defaults, their bounds, the range rule, the lengths of the buffers, and the tests of rows and draws.
 ghost use mathlib.Core.Path.{_≡_};
 ghost use mathlib.Core.Bool.{false};
-ghost use Prim.Native.Nat.{_≤_, min};
+ghost use Prim.Native.Nat.{_≤_};
 ghost use Rattle.pq_params.specs.Defaults.{plainDefault, celledDefault};
 ghost use Rattle.pq_params.specs.Bounds.{badRange, badPlain, badCelled, badEpochs, tooManyRows, tooManyDraws, tooMuchAsked, centersOf};
 ghost use Rattle.pq_params.specs.Ranges.{widthOf, beginOf, coveredOf, rangesUsed, pairAt, rangesOf};
@@ -125,13 +125,6 @@ pub fn centers(bits: usize) -> usize
     1 << bits
 }
 
-// The lesser of two numbers.
-fn least(a: usize, b: usize) -> usize
-    ensures { λ r. ⌜ r ≡ min a b ⌝ }
-{
-    if a < b { a } else { b }
-}
-
 // How long range i is.
 pub fn range_width(d: usize, nsub: usize, i: usize) -> usize
     requires { ⌜ badRange d nsub ≡ false ⌝ }
@@ -151,7 +144,7 @@ pub fn range_begin(d: usize, nsub: usize, i: usize) -> usize
     ensures { λ r. ⌜ r ≡ beginOf d nsub i ⌝ }
 {
     let sub_dimension = d / nsub;
-    i * sub_dimension + least(i, d % sub_dimension)
+    i * sub_dimension + lists::least(i, d % sub_dimension)
 }
 
 // C, the coordinates covered.

@@ -1,6 +1,6 @@
 use borrow.Author.Needs.{needs}
 use mathlib.Core.Path.{_∙_}
-use Rattle.kmeans_assign.proofs.Choosing.{stretch-distance}
+use Rattle.metrics.proofs.Laws.{stretch-distance}
 use Rattle.kmeans_assign.proofs.distance_to.Statement.{statement}
 use Rattle.kmeans_assign.proofs.distance_to.Tie as tie
 

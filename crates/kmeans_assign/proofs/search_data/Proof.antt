@@ -8,7 +8,7 @@ use Rattle.lists.specs.Lists.{tab}
 use Rattle.lists.proofs.Tables.{tab-none, tab-step, tab-done}
 use Rattle.kmeans_assign.specs.Assign.{chosenAt}
 use Rattle.kmeans_assign.specs.Task.{rowTask}
-use Rattle.kmeans_assign.proofs.Rows.{row-chosen}
+use Rattle.kmeans_assign.proofs.Rows.{row-held, row-chosen}
 use Rattle.kmeans_assign.proofs.Choosing.{nearest-lt}
 use native.Mathlib.Nat.{lt-of-lt-of-le}
 use Rattle.kmeans_assign.proofs.search_data.Statement.{statement}
@@ -22,6 +22,9 @@ abbrev μ-loop : tie.MeasureT-loop
 
 loop-holds : tie.Need-loop-holds Inv-loop μ-loop
 loop-holds c = (search needs, search needs, tab-none _ _)
+
+row-range-requires : tie.Need-row-range-requires Inv-loop μ-loop
+row-range-requires c κs = row-held (c .before .before .before .before .before .before .before .pre .0) (c .loop-test .taken)
 
 nearest-requires : tie.Need-nearest-requires Inv-loop μ-loop
 nearest-requires c κs =
@@ -60,7 +63,7 @@ search-data-spec =
     Inv-loop
     μ-loop
     loop-holds
-    (λ c κs. search needs)
+    row-range-requires
     nearest-requires
     cast-assigned
     (λ c. search needs)

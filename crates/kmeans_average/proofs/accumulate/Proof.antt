@@ -5,14 +5,14 @@ use native.Mathlib.Omega.{arith}
 use lib.ListN.{length}
 use Rattle.lists.specs.Lists.{tab, grid}
 use Rattle.lists.specs.Tests.{count}
-use Rattle.lists.proofs.Tables.{length-tab, getD-tab}
+use Rattle.lists.proofs.Tables.{length-tab}
 use Rattle.lists.proofs.Joins.{within, grid-fill}
-use Rattle.lists.proofs.Tests.{count-le}
-use Rattle.kmeans_average.specs.Average.{isOf, sumWhere}
+use Rattle.lists.proofs.Counts.{countTo, count-more, few-counted}
+use Rattle.kmeans_average.specs.Average.{sumWhere}
 use Rattle.kmeans_assign.specs.Task.{rowTask}
 use Rattle.kmeans_average.specs.AverageInner.{centerSum}
-use Rattle.kmeans_assign.proofs.Rows.{row-value}
-use Rattle.kmeans_average.proofs.Averaging.{countTo, center-step, count-step}
+use Rattle.kmeans_assign.proofs.Rows.{row-held, row-value}
+use Rattle.kmeans_average.proofs.Averaging.{center-step}
 use Rattle.kmeans_average.proofs.accumulate.Statement.{statement}
 use Rattle.kmeans_average.proofs.accumulate.Tie as tie
 
@@ -37,6 +37,9 @@ loop-holds c =
     let s = c .before .before .before .before .before .before in
     (search needs, refl, refl, s .pre .1 .1 .0 ∙ grid-fill _ _ _, s .pre .1 .1 .1)
 
+row-range-requires : tie.Need-row-range-requires Inv-loop μ-loop
+row-range-requires c κs = row-held (c .before .before .before .before .before .before .before .before .pre .0) (c .loop-test .taken)
+
 shared-slice-read-wide : tie.Need-shared-slice-read-wide Inv-loop μ-loop
 shared-slice-read-wide c =
     let s = c .before .before .before .before .before .before .before .before .before .before in
@@ -58,8 +61,7 @@ count-one-requires c κs =
     let a = c .before .before .before .before .before .wide .result in
     let h : a < s .args .f .centers = rw (c .before .before .before .before .before .wide .ensures) (s .pre .1 .0 .below (i .k) (c .before .before .before .before .before .before .before .before .loop-test .taken)) in (
       omega (arith, i .inv .2, long s .1),
-      rw (i .inv .4, getD-tab (countTo (s .args .assigned .now) (i .k)) (s .args .f .centers) a 0 h)
-          (omega (arith, count-le (isOf (s .args .assigned .now) a) (i .k), c .before .before .before .before .before .before .before .before .loop-test .taken, s .pre .0 .rows-le)),
+      omega (arith, few-counted (s .args .assigned .now) (i .k) (s .args .f .centers) a (i .counts) (i .inv .4) h, c .before .before .before .before .before .before .before .before .loop-test .taken, s .pre .0 .rows-le),
     )
 
 loop-again : tie.Need-loop-again Inv-loop μ-loop
@@ -75,7 +77,7 @@ loop-again c =
       search needs,
       search needs,
       c .before .before .before .before .before .before .add-to-center .ensures ∙ rw (x .ensures .long) (center-step t (b .assigned .now) (i .k) (b .f .centers) (b .f .w) a (i .centers) (x .result .now) (b .residual .now) (b .f .has) h (c .before .before .before .before .before .before .before .before .wide .ensures) (i .inv .3) (λ j l. row-value (b .f) (b .members .now) (b .residual .now) (i .k) j (x .ensures) l)),
-      c .before .before .count-one .ensures ∙ count-step (b .assigned .now) (i .k) (b .f .centers) a (i .counts) h (c .before .before .before .before .before .before .before .before .wide .ensures) (i .inv .4),
+      c .before .before .count-one .ensures ∙ count-more (b .assigned .now) (i .k) (b .f .centers) a (i .counts) (c .before .before .before .before .before .before .before .before .wide .ensures) (i .inv .4),
     )
 
 returns : tie.Need-returns Inv-loop μ-loop
@@ -90,7 +92,7 @@ accumulate-spec =
     Inv-loop
     μ-loop
     loop-holds
-    (λ c κs. search needs)
+    row-range-requires
     (λ c. search needs)
     shared-slice-read-wide
     (λ c κs. search needs)

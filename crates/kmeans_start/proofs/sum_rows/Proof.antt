@@ -9,7 +9,7 @@ use Rattle.metrics.specs.Distance.{sumTo}
 use Rattle.kmeans_assign.specs.Task.{rowTask}
 use Rattle.kmeans_start.specs.StartInner.{columnSum}
 use Rattle.kmeans_start.proofs.Starting.{column-step}
-use Rattle.kmeans_assign.proofs.Rows.{row-value}
+use Rattle.kmeans_assign.proofs.Rows.{row-held, row-value}
 use Rattle.kmeans_start.proofs.sum_rows.Statement.{statement}
 use Rattle.kmeans_start.proofs.sum_rows.Tie as tie
 
@@ -26,6 +26,9 @@ long c = ap length (c .pre .1) ∙ length-tab _ _
 loop-holds : tie.Need-loop-holds Inv-loop μ-loop
 unfolding sumTo
 loop-holds c = (search needs, refl, c .before .before .before .before .pre .1)
+
+row-range-requires : tie.Need-row-range-requires Inv-loop μ-loop
+row-range-requires c κs = row-held (c .before .before .before .before .before .before .pre .0) (c .loop-test .taken)
 
 add-into-requires : tie.Need-add-into-requires Inv-loop μ-loop
 add-into-requires c κs =
@@ -58,7 +61,7 @@ sum-rows-spec =
     Inv-loop
     μ-loop
     loop-holds
-    (λ c κs. search needs)
+    row-range-requires
     add-into-requires
     (λ c. search needs)
     (λ c. search needs)

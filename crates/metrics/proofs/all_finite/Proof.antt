@@ -1,33 +1,36 @@
+-- `all_finite`: whether the coordinates passed are finite.
+use Prim.Native.Nat.{_-_, _≤_}
 use borrow.Author.Needs.{needs}
-use Prim.Native.Nat.{ℕ, _-_, _≤_, _<_}
-use mathlib.Core.Path.{_≡_, sym, _∙_}
-use native.Mathlib.Omega.{arith}
 use lib.ListN.{length}
-use mathlib.Core.Bool.{true}
-use borrow.Author.Count.{below-more}
-use borrow.Author.Tests.{not-true, not-false}
-use Rattle.lists.proofs.Tests.{every-of, every-false}
+use mathlib.Core.Path.{_≡_, refl, _∙_, ap}
+use native.Mathlib.Numerals.{add-one}
+use native.Mathlib.Omega.{arith}
+use mathlib.Core.Path.{ap₂}
+use mathlib.Core.Bool.{_&&_}
+use Rattle.lists.specs.Tests.{every}
 use Rattle.metrics.specs.Distance.{finiteIn}
 use Rattle.metrics.proofs.all_finite.Statement.{statement}
 use Rattle.metrics.proofs.all_finite.Tie as tie
 
 abbrev Inv-loop : tie.InvT-loop
-Inv-loop s j₀ j-end j = (j ≤ length s) × ((i : ℕ) → i < j → finiteIn s i ≡ true)
+Inv-loop s all₀ j₀ j-end all j = (j ≤ length s) × (all ≡ every (finiteIn s) j)
 
 abbrev μ-loop : tie.MeasureT-loop
-μ-loop s j₀ j-end j = length s - j
+μ-loop s all₀ j₀ j-end all j = length s - j
 
 loop-holds : tie.Need-loop-holds Inv-loop μ-loop
-loop-holds c = (search needs, λ i h. absurd (omega arith))
-
-returns : tie.Need-returns Inv-loop μ-loop
-returns c = sym (every-false _ _ (c .before .before .before .before .loop .j) (search needs) (sym (c .before .is-finite .ensures) ∙ not-true _ (c .if1 .taken)))
+unfolding every
+loop-holds c = (search needs, refl)
 
 loop-again : tie.Need-loop-again Inv-loop μ-loop
-loop-again c = (search needs, below-more _ _ (c .before .before .before .before .loop .inv .1) (sym (c .before .is-finite .ensures) ∙ not-false _ (c .if1 .left)))
+unfolding every
+loop-again c = (search needs, rw add-one (ap₂ _&&_ (c .before .before .before .loop .inv .1) (c .is-finite .ensures)))
 
-returns-2 : tie.Need-returns-2 Inv-loop μ-loop
-returns-2 c = sym (every-of _ _ (λ i h. c .before .loop .inv .1 i (omega arith)))
+returns : tie.Need-returns Inv-loop μ-loop
+returns c =
+    let a = c .before .before .before .args in
+    let e : c .before .loop .j ≡ length (a .s .now) = omega arith in
+    c .before .loop .inv .1 ∙ ap (every (finiteIn (a .s .now))) e
 
 pub all-finite-spec : {M : Type 1} → statement M
 all-finite-spec =
@@ -39,8 +42,7 @@ all-finite-spec =
     (λ c. search needs)
     (λ c. search needs)
     (λ c κs. search needs)
-    returns
     (λ c. search needs)
     (λ c. search needs)
     loop-again
-    returns-2)
+    returns)

@@ -1,0 +1,1 @@
+// The search in one cell.
