@@ -84,7 +84,8 @@ fn rows_sound(z: CellNumbers, centers: usize, mask: &[u8], codes: &[u8], members
     all
 }
 
-// Step 3: whether the codes of the cell's visible rows are below K. A byte is below 256; where all codes are below K, so are those of the visible rows; else row by row.
+// Step 3: whether the codes of the cell's visible rows are below K. A byte is below 256; where all codes are below K, so are those of the
+// visible rows; else row by row.
 pub fn codes_sound(z: CellNumbers, mask: &[u8], codes: &[u8], members: &[u32]) -> bool
     requires { ⌜ (badPlain (z .shape) ≡ false) × Rows z (now mask) (now codes) (now members) ⌝ }
     ensures { λ r. ⌜ r ≡ rowsSound (z .shape) (visible (now (mask .entry))) (now (codes .entry)) (rowsOf z (now (members .entry))) ⌝ }

@@ -36,7 +36,10 @@ termAt table codes nsub centers s m = tableTerm table codes nsub centers m s
 -- four rows, and f of each; four places from j on
 abbrev pub FourCoded : List ℕ → List Float → ℕ → ℕ → FourRows → Type 0
 FourCoded codes table nsub centers m =
-    Coded codes table nsub centers (m .a) × Coded codes table nsub centers (m .b) × Coded codes table nsub centers (m .c) × Coded codes table nsub centers (m .d)
+    Coded codes table nsub centers (m .a)
+    × Coded codes table nsub centers (m .b)
+    × Coded codes table nsub centers (m .c)
+    × Coded codes table nsub centers (m .d)
 
 abbrev pub fourOf : (ℕ → Float) → FourRows → Four
 fourOf f m = record { a = f (m .a); b = f (m .b); c = f (m .c); d = f (m .d) }

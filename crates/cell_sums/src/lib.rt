@@ -140,7 +140,8 @@ fn store_sums(
 )
     requires { ⌜ AllCoded (now codes) (now table) nsub centers (now picked) n × (n ≤ length (now picked)) × (n ≤ length (now out)) ⌝ }
     ensures { λ _. ⌜ now (out .exit) ≡
-        tab (pickedAt (tableSum (now (table .entry)) (now (codes .entry)) nsub centers) (now (picked .entry))) n ++ drop n (now (out .entry)) ⌝ }
+        tab (pickedAt (tableSum (now (table .entry)) (now (codes .entry)) nsub centers) (now (picked .entry))) n
+        ++ drop n (now (out .entry)) ⌝ }
 {
     let mut j: usize = 0;
     while 4 <= n - j {
@@ -178,7 +179,8 @@ pub fn sum_picked(
 ) -> u32
     requires { ⌜ AllCoded (now codes) (now table) nsub centers (now picked) n × (n ≤ length (now picked)) × (n ≤ length (now out)) ⌝ }
     ensures { λ r. ⌜
-        Summed (tableSum (now (table .entry)) (now (codes .entry)) nsub centers) (now (picked .entry)) n (now (out .entry)) (now (out .exit)) r
+        Summed (tableSum (now (table .entry)) (now (codes .entry)) nsub centers) (now (picked .entry)) n
+        (now (out .entry)) (now (out .exit)) r
         ⌝ }
 {
     store_sums(codes, nsub, centers, table, picked, n, out);

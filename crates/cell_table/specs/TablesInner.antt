@@ -48,7 +48,8 @@ stretchCoordinate z centers subs s q j = getD subs (centers * beginOf (z .d) (z 
 
 -- the entry of sub-space s and centre q, from the values x at the D coordinates
 abbrev pub stretchEntry : Shape → ℕ → (ℕ → Float) → List Float → ℕ → ℕ → Float
-stretchEntry z centers x subs s q = squared (onRange (z .d) (z .nsub) s x) (stretchCoordinate z centers subs s q) (widthOf (z .d) (z .nsub) s)
+stretchEntry z centers x subs s q =
+    squared (onRange (z .d) (z .nsub) s x) (stretchCoordinate z centers subs s q) (widthOf (z .d) (z .nsub) s)
 
 -- what a table is worked from: one cell's own stretch of the sub-centres, the query and the residual
 pub record Parts (z : Shape) (centers : ℕ) (query residual subs table : List Float) : Type 0 where

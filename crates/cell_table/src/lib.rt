@@ -27,7 +27,8 @@ fn fill_range(
 ) -> u32
     requires { ⌜ (length (now residual) ≡ length (now x)) × (length (now centers) ≡ n * length (now x)) × (length (now out) ≡ n) ⌝ }
     ensures { λ r. ⌜
-        Stored (distanceAt (now (x .entry)) (now (residual .entry)) has (now (centers .entry)) (length (now (x .entry)))) n (now (out .exit)) r
+        Stored (distanceAt (now (x .entry)) (now (residual .entry)) has (now (centers .entry)) (length (now (x .entry)))) n
+        (now (out .exit)) r
         ⌝ }
 {
     for q in 0..n {

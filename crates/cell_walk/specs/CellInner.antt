@@ -1,4 +1,4 @@
--- What the search in one cell promises to a search that goes from cell to cell: it begins with results that hold the candidates of the cells before.
+-- What the search in one cell promises to a search that goes from cell to cell: it begins with results that hold earlier candidates.
 use Prim.Native.Nat.{ℕ}
 use mathlib.Core.Path.{_≡_}
 use mathlib.Core.List.{List, _++_, map}

@@ -1,3 +1,4 @@
 pub mod Candidates
 pub mod Results
 pub mod CellInner
+pub mod WalkInner

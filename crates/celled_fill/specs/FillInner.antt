@@ -83,8 +83,9 @@ pub record Listed (z : Shape) (rows : List Float) (list : List ℕ) (center subs
   pub subs-long : length subs ≡ subsLong z
 
 -- the lists are those of the rows' cells, and sub-centres and codes are of their lengths
-pub record Coding (s : CelledShape) (rows coarse : List Float) (starts members : List ℕ) (subs : List Float) (codes : List ℕ) : Type 0 where
-  pub rows : Rows s (length members) rows coarse
-  pub lists : Lists s (length members) rows coarse starts members
+pub record Coding (s : CelledShape) (rows coarse : List Float) (starts members : List ℕ) (subs : List Float) (codes : List ℕ)
+    : Type 0 where
+  pub held : Rows s (length members) rows coarse
+  pub filled : Lists s (length members) rows coarse starts members
   pub subs-long : length subs ≡ s .cells * subsLong (s .plain)
   pub codes-long : length codes ≡ length members * s .plain .nsub

@@ -1,5 +1,6 @@
 -- A celled index: its numbers, its row count and its five buffers, each of document 01's length.
-use Prim.Native.Nat.{ℕ}
+use Prim.Native.Nat.{ℕ, _+_, _*_}
+use mathlib.Core.Path.{_≡_}
 use mathlib.Core.List.{List, [], _∷_}
 use mathlib.Core.Bool.{Bool, not}
 use lib.ListN.{length}
@@ -7,7 +8,7 @@ use lib.Dec.{eqb}
 use lib.Ieee.{Float}
 use Rattle.pq_params.specs.declared.CelledShape.{CelledShape}
 use Rattle.pq_params.specs.declared.CelledLengths.{CelledLengths}
-use Rattle.pq_params.specs.Lengths.{celledOf}
+use Rattle.pq_params.specs.Lengths.{subsLong, celledOf}
 use Rattle.celled_lists.specs.declared.IndexLengths.{IndexLengths}
 
 pub record Index : Type 0 where
@@ -46,3 +47,11 @@ lengthTests long l =
 
 abbrev pub indexLengths : Index → List Bool
 indexLengths x = lengthTests (celledOf (x .shape) (x .n)) (lengthsOf x)
+
+-- each buffer is of its length
+pub record Sized (x : Index) : Type 0 where
+  pub coarse-long : length (x .coarse) ≡ x .shape .cells * x .shape .plain .d
+  pub starts-long : length (x .starts) ≡ x .shape .cells + 1
+  pub members-long : length (x .members) ≡ x .n
+  pub subs-long : length (x .subs) ≡ x .shape .cells * subsLong (x .shape .plain)
+  pub codes-long : length (x .codes) ≡ x .n * x .shape .plain .nsub

@@ -64,7 +64,7 @@ train t used = epochsTo t used (t .epochs)
 -- ---- what a training asks
 
 -- the lent runs are as long as the frame says, the draws are in range, and no more are used than lent
-pub record Lent (f : Frame) (draws : List Float) (used : ℕ) (centers : List Float) (assigned counts : List ℕ) : Type 0 where
+pub record Trainable (f : Frame) (draws : List Float) (used : ℕ) (centers : List Float) (assigned counts : List ℕ) : Type 0 where
   pub centers-long : length centers ≡ f .centers * f .w
   pub assigned-long : length assigned ≡ f .n
   pub counts-long : length counts ≡ f .centers

@@ -5,7 +5,7 @@ ghost use Prim.Native.Nat.{_*_, _≤_};
 ghost use lib.ListN.{length};
 ghost use Rattle.kmeans_assign.specs.Task.{Framed, taskOf, rowTask};
 ghost use Rattle.kmeans_split.specs.Run.{runOf, Reached};
-ghost use Rattle.kmeans.specs.Kmeans.{averaged, epochOf, beginning, train, Lent};
+ghost use Rattle.kmeans.specs.Kmeans.{averaged, epochOf, beginning, train, Trainable};
 use answers::Clustered;
 use answers::Step;
 use kmeans_assign::Frame;
@@ -59,7 +59,7 @@ fn run_epoch(
     counts: &mut [u32],
 ) -> Clustered
     requires { ⌜ Framed f (now rows) (now members) (now residual) ⌝ }
-    requires { ⌜ Lent f (now draws) used (now centers) (now assigned) (now counts) ⌝ }
+    requires { ⌜ Trainable f (now draws) used (now centers) (now assigned) (now counts) ⌝ }
     ensures { λ r.
         let t = taskOf f (now (rows .entry)) (now (members .entry)) (now (residual .entry)) epochs (now (draws .entry)) in
         let before = runOf (Clustered.Done used) (now (centers .entry)) (now (assigned .entry)) (now (counts .entry)) in
@@ -100,7 +100,7 @@ fn run_epochs(
     counts: &mut [u32],
 ) -> Clustered
     requires { ⌜ Framed f (now rows) (now members) (now residual) ⌝ }
-    requires { ⌜ Lent f (now draws) used (now centers) (now assigned) (now counts) ⌝ }
+    requires { ⌜ Trainable f (now draws) used (now centers) (now assigned) (now counts) ⌝ }
     requires { let t = taskOf f (now rows) (now members) (now residual) epochs (now draws) in
         let before = runOf (Clustered.Done used) (now centers) (now assigned) (now counts) in
         ⌜ (epochs ≤ 1000) × (before ≡ beginning t used) ⌝ }
@@ -145,7 +145,7 @@ pub fn train(
     counts: &mut [u32],
 ) -> Clustered
     requires { ⌜ Framed f (now rows) (now members) (now residual) ⌝ }
-    requires { ⌜ Lent f (now draws) used (now centers) (now assigned) (now counts) ⌝ }
+    requires { ⌜ Trainable f (now draws) used (now centers) (now assigned) (now counts) ⌝ }
     requires { ⌜ epochs ≤ 1000 ⌝ }
     ensures { λ r.
         let t = taskOf f (now (rows .entry)) (now (members .entry)) (now (residual .entry)) epochs (now (draws .entry)) in

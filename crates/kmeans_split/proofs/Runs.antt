@@ -19,7 +19,7 @@ use Rattle.kmeans_assign.specs.declared.Frame.{Frame}
 use Rattle.kmeans_assign.specs.Task.{taskOf, Task}
 use Rattle.kmeans_average.specs.Finite.{finiteCenter}
 use Rattle.kmeans_split.specs.Split.{splitCenters, splitCounts, splitOff, walkAt, stepsOf, drawsLeft, fillCenter, fillIfEmpty, splitTo, splitTask}
-use Rattle.kmeans_split.specs.Run.{Run, runOf, answered, onwardBy, Reached}
+use Rattle.kmeans_split.specs.Run.{Run, runOf, refusedWith, onwardBy, Reached}
 
 -- a run that equals a definition's says what that one says
 pub reached : {r d : Run} → r ≡ d → Reached r d
@@ -39,7 +39,7 @@ unfolding fillCenter
 fill-split t epoch i used s r q e h f = f ∙ rw (← e, lt-ltb s (drawsLeft t used) h)
 
 pub fill-out : (t : Task) (epoch i used s : ℕ) (r : Run) → s ≡ stepsOf t (r .counts) used i → drawsLeft t used ≤ s
-    → answered (OutOfDraws epoch i) r ≡ fillCenter t epoch i used r
+    → refusedWith (OutOfDraws epoch i) r ≡ fillCenter t epoch i used r
 unfolding fillCenter
 fill-out t epoch i used s r e h = rw (← e, le-ltb s (drawsLeft t used) h)
 

@@ -15,17 +15,17 @@ pub record Run : Type 0 where
   pub assigned : List ℕ
   pub counts : List ℕ
 
--- the same, from the answer and the lent runs
+-- a run, from the answer and what stands in the lent buffers
 abbrev pub runOf : Clustered → List Float → List ℕ → List ℕ → Run
 runOf answer centers assigned counts = record { answer = answer; centers = centers; assigned = assigned; counts = counts }
 
--- the same, for rows that are assigned to the centres `to`: what step 5 does not see
+-- the same, the centre of each row last: step 5 does not see them
 abbrev pub runWith : Clustered → List Float → List ℕ → List ℕ → Run
 runWith answer centers counts to = runOf answer centers to counts
 
--- with another answer
-abbrev pub answered : Clustered → Run → Run
-answered c r = record { answer = c; centers = r .centers; assigned = r .assigned; counts = r .counts }
+-- a run that ends here, with a refusal
+abbrev pub refusedWith : Clustered → Run → Run
+refusedWith c r = record { answer = c; centers = r .centers; assigned = r .assigned; counts = r .counts }
 
 -- what comes next, from the draws used so far, unless there is a refusal already
 abbrev pub onwardBy : Clustered → Run → (ℕ → Run) → Run

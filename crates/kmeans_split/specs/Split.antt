@@ -15,7 +15,7 @@ use Rattle.answers.specs.declared.Clustered.the-variants.{Done, OutOfDraws, Not
 use Rattle.kmeans_assign.specs.declared.Frame.{Frame}
 use Rattle.kmeans_assign.specs.Task.{Task, taskOf}
 use Rattle.kmeans_average.specs.Finite.{finiteCenter}
-use Rattle.kmeans_split.specs.Run.{Run, answered, onward}
+use Rattle.kmeans_split.specs.Run.{Run, refusedWith, onward}
 
 -- count/n in f64
 abbrev pub shareOf : Task → List ℕ → ℕ → Float
@@ -74,7 +74,7 @@ unfoldable pub fillCenter : Task → ℕ → ℕ → ℕ → Run → Run
 fillCenter t epoch i used r =
     let s = stepsOf t (r .counts) used i in
     let split = splitOff t epoch i (walkAt t i s) (used + s + 1) r in
-    cond (ltb s (drawsLeft t used)) split (answered (OutOfDraws epoch i) r)
+    cond (ltb s (drawsLeft t used)) split (refusedWith (OutOfDraws epoch i) r)
 
 -- for each centre i rising, if its count is 0
 abbrev pub fillIfEmpty : Task → ℕ → ℕ → Run → ℕ → Run

@@ -1,26 +1,18 @@
 -- The tests of a plain training: what follows from the number that they answer.
 use Prim.Native.Nat.{ℕ}
 use mathlib.Core.Path.{_≡_, sym, _∙_, ap}
-use mathlib.Core.List.{List}
-use mathlib.Core.Bool.{Bool, false, not, _||_}
-use borrow.Author.Tests.{ltb-false, ne-eqb, not-false}
-use lib.ListN.{length, getD}
-use lib.Ieee.{Float, nan}
+use mathlib.Core.Bool.{Bool, _||_}
+use borrow.Author.Tests.{ltb-false, ne-eqb}
 use Rattle.lists.specs.Tests.{anyOf}
-use Rattle.lists.proofs.Tests.{none, or-l, or-r, and-l, every-true}
+use Rattle.lists.proofs.Tests.{none, or-l, or-r}
 use Rattle.pq_params.specs.declared.PlainLengths.{PlainLengths}
 use Rattle.pq_params.specs.Bounds.{badPlain, badEpochs}
 use Rattle.pq_params.specs.Lengths.{plainOf, plainLengths}
-use Rattle.pq_params.specs.Refusals.{anyDrawOut, inDrawRange, trainTests}
+use Rattle.pq_params.specs.Refusals.{trainTests}
 use Rattle.pq_params.proofs.Refusing.{same-long, train-passed, train-agree, plain-long}
-use Rattle.kmeans_split.specs.Split.{NotNegative}
+use Rattle.pq_train.proofs.Draws.{in-range}
 use Rattle.plain_train.specs.Outcome.{TrainIn, trainLengths, trainRefusal, trainUnchanged, trainEnded, trainOutcome}
 use Rattle.plain_train.specs.TrainInner.{Ready}
-
--- draws in range are not negative
-in-range : (draws : List Float) → anyDrawOut draws ≡ false → NotNegative draws
-unfolding anyDrawOut
-in-range draws e k h = and-l _ _ (every-true (λ (i : ℕ). inDrawRange (getD draws i nan)) (length draws) (not-false _ e) k h)
 
 module _ (i : TrainIn) where
   abbrev bad : Bool

@@ -1,7 +1,16 @@
 pub mod Standing
 pub mod Check
+pub mod Passing
+pub mod Cells
 pub mod Policy
+pub mod PlainPolicy
+pub mod Twice
 pub mod PolicyExamples
 pub mod Examples
+pub mod Promised
 pub mod Determinacy
-pub mod Twice
+pub mod LessZero
+pub mod OneCell
+pub mod OneCellExamples
+pub mod Filled
+pub mod Trained

@@ -203,7 +203,7 @@ code-chosen l x center subs xs rs cs s p q r =
     rw (p .long, p .is, q .is, r .is) (chosen-ext (valueIn (l .has) (part x b w) (part center b w)) (λ (j : ℕ). valueIn (l .has) x center (b + j)) (part subs (centersOf (l .shape .bits) * b) (centersOf (l .shape .bits) * w)) w (centersOf (l .shape .bits)) (λ j h. rw (getD-part x b w j nan h, getD-part center b w j nan h)))
 
 -- the stretch of sub-space s of the finished sub-centres is its centres
-centers-part : (l : Listed) (s : ℕ) → s < l .shape .nsub
+pub centers-part : (l : Listed) (s : ℕ) → s < l .shape .nsub
     → part (subCenters l) (centersOf (l .shape .bits) * beginOf (l .shape .d) (l .shape .nsub) s) (centersOf (l .shape .bits) * widthOf (l .shape .d) (l .shape .nsub) s) ≡ centersAt l s
 unfolding subCenters
 centers-part l s below =

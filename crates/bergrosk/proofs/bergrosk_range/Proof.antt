@@ -45,7 +45,7 @@ array-read-t13 c = search needs
 returns : tie.Need-returns
 returns c =
     let a = c .before .before .args in
-    rw (c .before .range-at .ensures) (faced (a .d) (a .n-sub) (a .i) (c .bad-range .result) (c .bad-range .ensures))
+    rw (c .before .range-at .ensures) (faced (a .d) (a .nsub) (a .i) (c .bad-range .result) (c .bad-range .ensures))
 
 pub bergrosk-range-spec : {M : Type 1} → statement M
 bergrosk-range-spec =

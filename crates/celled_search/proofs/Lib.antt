@@ -1,0 +1,5 @@
+pub mod ProbedLists
+pub mod ProbedCells
+pub mod ProbedWalk
+pub mod SearchOutcome
+pub mod SearchSteps

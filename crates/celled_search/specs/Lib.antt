@@ -1,0 +1,4 @@
+pub mod Search
+pub mod Outcome
+pub mod StubCells
+pub mod SearchInner

@@ -1,0 +1,3 @@
+pub mod Training
+pub mod Outcome
+pub mod TrainInner

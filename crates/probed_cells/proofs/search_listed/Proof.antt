@@ -1,0 +1,35 @@
+-- `search_listed`: the cell that is searched is the definition's.
+use borrow.Author.Needs.{needs}
+use Rattle.probed_cells.specs.Search.{Asked}
+use Rattle.probed_cells.specs.Search.{asking}
+use Rattle.probed_cells.proofs.ProbedCells.{cell-is, cell-searched}
+use Rattle.probed_cells.proofs.search_listed.Statement.{statement}
+use Rattle.probed_cells.proofs.search_listed.Tie as tie
+
+abbrev asked-of : tie.Start → Asked
+asked-of c = let a = c .args in asking (a .s) (a .n) (a .query .now) (a .mask .now) (a .coarse .now) (a .starts .now) (a .members .now) (a .subs .now) (a .codes .now)
+
+cell-list-requires : tie.Need-cell-list-requires
+cell-list-requires c κs =
+    let w = c .before .before .before .before .before .before .before .before .before .before .pre .0 in
+    (w .ready .starts-long, rw (w .ready .members-long) (w .starts-good), w .cell-in)
+
+search-cell-requires : tie.Need-search-cell-requires
+search-cell-requires c κs =
+    let p = c .before .before .before .before .before .before .before .before .before .before .before .before .before .before .before .pre in
+    (cell-searched (asked-of (c .before .before .before .before .before .before .before .before .before .before .before .before .before .before .before)) _ _ (c .before .before .before .before .cell-list .ensures .is) _ (p .0), p .1)
+
+returns : tie.Need-returns
+returns c =
+    rw (cell-is (asked-of (c .before .before .before .before .before .before .before .before .before .before .before .before .before .before .before .before .before .before .before .before .before .before)) _ _ (c .before .before .before .before .before .before .before .before .before .before .before .cell-list .ensures .is)) at (c .before .before .before .before .before .before .search-cell .ensures)
+
+pub search-listed-spec : {M : Type 1} → statement M
+search-listed-spec =
+    tie.close
+    (tie.spec
+    cell-list-requires
+    search-cell-requires
+    (λ c. search needs)
+    (λ c. search needs)
+    (λ c. search needs)
+    returns)
