@@ -4,8 +4,8 @@ use answers::Clustered;
 use answers::Stage;
 use kmeans_assign::Frame;
 use recorded::layout::product;
-use recorded::parts;
-use recorded::tally::Tally;
+use lending::parts;
+use lending::tally::Tally;
 
 // Rows of two coordinates, the number of centres, the epochs, whether a split follows, how many of the draws 0.0, 0.25, 0.5, 0.4 are lent;
 // and what comes out: the answer's number, the draws used, the centres, how many rows each has, and the last assignment.
@@ -130,13 +130,13 @@ fn is_left(e: Example, centers: &[f32], assigned: &[u32], counts: &[u32]) -> boo
     let at = e.at;
     let to = e.assigned;
     let rows = e.counts;
-    if !recorded::compare::listed_floats(centers, &at) {
+    if !lending::listed::floats(centers, &at, 0.0) {
         return false;
     }
-    if !recorded::compare::listed_numbers(assigned, &to) {
+    if !lending::listed::numbers(assigned, &to, 0) {
         return false;
     }
-    recorded::compare::listed_numbers(counts, &rows)
+    lending::listed::numbers(counts, &rows, 0)
 }
 
 // The frame of an example: all rows, of two coordinates.
@@ -200,7 +200,7 @@ fn agrees(e: Example) -> bool {
 pub(crate) fn agreeing() -> Tally {
     let mut t = Tally { agree: 0, of: 0 };
     for i in 0..EXAMPLES {
-        t = recorded::tally::counted(t, agrees(example_at(i)));
+        t = lending::tally::counted(t, agrees(example_at(i)));
     }
     t
 }

@@ -5,7 +5,7 @@ use kmeans_assign::Frame;
 use recorded::layout::after;
 use recorded::layout::count;
 use recorded::layout::product;
-use recorded::parts;
+use lending::parts;
 
 // The numbers before the lists.
 pub(crate) struct Numbers {

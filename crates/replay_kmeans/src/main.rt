@@ -7,8 +7,8 @@ mod fits;
 mod kind_kmeans;
 
 use recorded::layout;
-use recorded::tally;
-use recorded::tally::Tally;
+use lending::tally;
+use lending::tally::Tally;
 
 // The kind of the file's cases.
 const KMEANS: u32 = 1;
@@ -33,7 +33,7 @@ fn replay_all(file: &[u8]) -> Tally {
 fn replay_file(fd: i32) -> Tally {
     let mut file = buffers::file();
     let n = io::read_full(fd, &mut file);
-    replay_all(recorded::parts::bytes(&file, n))
+    replay_all(lending::parts::bytes(&file, n))
 }
 
 // The examples, then the file.
