@@ -20,18 +20,18 @@ use Rattle.metrics.specs.Distance.{zero32, coordinateIn, coordinate}
 use Rattle.metrics.proofs.Laws.{squared-ext}
 use Rattle.neighbor.specs.Neighbor.{insertBy, insertAll}
 use Rattle.pq_params.specs.Bounds.{badPlain}
-use Rattle.pq_params.specs.Lengths.{subsLong, plainOf}
+use Rattle.pq_params.specs.Lengths.{subsLong, tableLong, plainOf, celledOf}
 use Rattle.pq_params.specs.Refusals.{notLong}
 use Rattle.pq_params.proofs.Refusing.{same-long, search-passed}
 use Rattle.cell_codes.specs.Codes.{codesSound}
 use Rattle.cell_walk.specs.Candidates.{cellFinite, candidates}
-use Rattle.cell_walk.specs.Results.{SearchOut, lentLengths, unchanged, blank}
+use Rattle.cell_walk.specs.Results.{SearchOut, askedOf, unchanged, blank}
 use Rattle.celled_lists.specs.Lists.{startsSound, listSound}
 use Rattle.celled_probe.specs.Probe.{finiteCells, nearestCells}
 use Rattle.plain_search.specs.Outcome.{SearchIn, wholeCell, searchLengths, searchRefusal, searchWorked, searchOutcome}
 use Rattle.probed_cells.specs.Search.{Asked, startsGood, coarseFinite, probed, cellAt, membersAt, cellSound, probedSound, probedFinite, allCandidates}
 use Rattle.celled_search.specs.Outcome as Celled
-use Rattle.policy.specs.OneCell.{inOneCell, farness, EachF32}
+use Rattle.policy.specs.OneCell.{oneCell, inOneCell, farness, EachF32}
 use Rattle.policy.proofs.Check.{long, list-sound}
 use Rattle.policy.proofs.LessZero.{less-zero}
 
@@ -65,7 +65,7 @@ abbrev lengthsOf : SearchIn → List Bool
 lengthsOf i = searchLengths (plainOf (i .shape) (i .n)) i
 
 module _ (i : SearchIn) where
-  same-wrong : anyOf (Celled.searchLengths (inOneCell i)) ≡ anyOf (lengthsOf i)
+  same-wrong : anyOf (Celled.searchLengths (celledOf (oneCell i .shape) (i .n)) (inOneCell i)) ≡ anyOf (lengthsOf i)
   same-wrong =
       rw (
         long (fill zero32 (i .shape .d)) (1 * i .shape .d) (length-tab (λ (j : ℕ). zero32) (i .shape .d) ∙ sym (one-mul (i .shape .d))),
@@ -73,10 +73,10 @@ module _ (i : SearchIn) where
         one-mul (subsLong (i .shape)),
       )
       (same-any (notLong (i .subs) (subsLong (i .shape))) (notLong (i .codes) (i .n * i .shape .nsub)) (notLong (i .query) (i .shape .d)) (notLong (i .mask) (i .n))
-      (lentLengths (i .lent) (i .shape)))
+      (notLong (i .lent .sums) (askedOf (i .lent)) ∷ notLong (i .lent .table) (tableLong (i .shape)) ∷ []))
 
   same-refusal : Celled.searchRefusal (inOneCell i) ≡ searchRefusal i
-  unfolding searchRefusal
+  unfolding Celled.searchRefusal searchRefusal
   same-refusal = rw (same-bad (badPlain (i .shape)), same-wrong)
 
 -- ---- the one cell is the plain index's

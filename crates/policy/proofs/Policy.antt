@@ -16,7 +16,7 @@ use Rattle.cell_walk.specs.Candidates.{cellFinite, candidates}
 use Rattle.cell_walk.specs.Results.{Lent, blank, answered}
 use Rattle.celled_lists.specs.Index.{Index}
 use Rattle.probed_cells.specs.Search.{Asked, coarseFinite, probed, probedAt, cellAt, cellSound, probedSound, probedCell, probedFinite, allCandidates}
-use Rattle.celled_search.specs.Outcome.{SearchIn, searchIn, searchRefusal, searchWorked, searchOutcome}
+use Rattle.celled_search.specs.Outcome.{SearchIn, searchRefusal, searchWorked, searchOutcome}
 use Rattle.policy.specs.Check.{Passes, listAt}
 use Rattle.policy.specs.Sight.{InSight}
 use Rattle.policy.specs.Policy.{SameCells, SameCodes, AlikeInSight}
@@ -50,6 +50,10 @@ module _ (a : Asked) (passes : Passes (a .index)) where
   undamaged l = rw (starts-sound (a .index) (sound (a .index) passes), probed-sound)
 
 -- ---- two searches that are alike in sight
+
+-- what is asked, and what is lent for it
+abbrev pub lentFor : Asked → Lent → SearchIn
+lentFor a l = record { asked = a; lent = l }
 
 -- what a asks, of an index with the lists and codes of x
 abbrev pub relisted : Asked → Index → Asked
@@ -93,7 +97,8 @@ module _ (a : Asked) (x : Index) (first : Passes (a .index)) (second : Passes (r
       ∙ sym (undamaged (relisted a x) second l)
 
   -- the lists and codes of both are of their lengths, and all else that is tested is equal
-  same-refusal : (l : Lent) → searchRefusal (searchIn a l) ≡ searchRefusal (searchIn (relisted a x) l)
+  same-refusal : (l : Lent) → searchRefusal (lentFor a l) ≡ searchRefusal (lentFor (relisted a x) l)
+  unfolding searchRefusal
   same-refusal l =
       let p = checked (a .index) first .lengths in
       let q = checked (relisted a x .index) second .lengths in
@@ -106,12 +111,12 @@ module _ (a : Asked) (x : Index) (first : Passes (a .index)) (second : Passes (r
         long (x .codes) _ (q .codes),
       )
 
-  same-outcome : (l : Lent) → searchOutcome (searchIn a l) ≡ searchOutcome (searchIn (relisted a x) l)
+  same-outcome : (l : Lent) → searchOutcome (lentFor a l) ≡ searchOutcome (lentFor (relisted a x) l)
   unfolding searchOutcome
   same-outcome l = rw (same-refusal l, same-worked l)
 
 -- what is equal in both is all of b but its lists and codes
-only-lists : (a b : SearchIn) → AlikeInSight a b → searchIn (relisted (a .asked) (b .asked .index)) (a .lent) ≡ b
+only-lists : (a b : SearchIn) → AlikeInSight a b → lentFor (relisted (a .asked) (b .asked .index)) (a .lent) ≡ b
 only-lists a b e i = record {
   asked = record {
     index = record {

@@ -21,15 +21,15 @@ use Rattle.celled_lists.specs.Lists.{startsSound, listSound}
 use Rattle.celled_check.specs.Check.{CheckIn, CheckOut, checkIn, indexSound, checkOutcome}
 use Rattle.celled_probe.specs.Probe.{finiteCells, nearestCells}
 use Rattle.probed_cells.specs.Search.{probedSound, probedFinite, allCandidates}
-use Rattle.celled_search.specs.Outcome.{SearchIn, searchIn, searchWorked, searchOutcome}
+use Rattle.celled_search.specs.Outcome.{SearchIn, searchRefusal, searchWorked, searchOutcome}
 use Rattle.policy.specs.Check.{Passes, listAt}
 use Rattle.policy.specs.Policy.{SameCells, SameCodes, AlikeInSight}
 use Rattle.policy.proofs.Check.{stands-alike}
-use Rattle.policy.proofs.Policy.{relisted, row-policy}
+use Rattle.policy.proofs.Policy.{lentFor, relisted, row-policy}
 
 -- two searches of which the one has the other's parameters, centres, query, mask and buffers
 alike-of : (a : SearchIn) (x : Index) → Passes (a .asked .index) → Passes (relisted (a .asked) x .index) → SameCells (a .asked) x → SameCodes (a .asked) x
-    → AlikeInSight a (searchIn (relisted (a .asked) x) (a .lent))
+    → AlikeInSight a (lentFor (relisted (a .asked) x) (a .lent))
 alike-of a x f g cells codes = record {
   first = f;
   second = g;
@@ -50,7 +50,7 @@ alike-of a x f g cells codes = record {
 
 -- what a search and a whole check compute by
 searches : SearchIn → SearchOut
-unfolding searchOutcome searchTests searchWorked startsSound listSound finiteCells nearestCells probedSound probedFinite allCandidates cellFinite candidates part tab join every rising keep squared sumTo comesBefore insertBy insertAll widthOf beginOf anyNotFinite ofBits add sub mul lt eq
+unfolding searchOutcome searchRefusal searchTests searchWorked startsSound listSound finiteCells nearestCells probedSound probedFinite allCandidates cellFinite candidates part tab join every rising keep squared sumTo comesBefore insertBy insertAll widthOf beginOf anyNotFinite ofBits add sub mul lt eq
 searches i = searchOutcome i
 
 checks : CheckIn → CheckOut

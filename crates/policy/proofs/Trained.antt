@@ -30,7 +30,7 @@ use Rattle.pq_train.proofs.Laws.{centers-begin}
 use Rattle.celled_lists.specs.Cells.{cellStart}
 use Rattle.celled_lists.proofs.CellLists.{lists-long}
 use Rattle.celled_check.specs.Check.{checkIn, checkOutcome}
-use Rattle.celled_train.specs.Training.{Given, coarseTask, cellOf, listOf, reachedCell, trainedCell, cellCenters, celledCode}
+use Rattle.celled_cells.specs.Training.{Given, coarseTask, cellOf, listOf, reachedCell, trainedCell, cellCenters, celledCode}
 use Rattle.celled_train.specs.Outcome.{TrainIn, TrainOut, givenOf, trainRefusal, trainUnchanged, trainZero, trainedIndex, trainDone, trainEnded, trainOutcome}
 use Rattle.celled_search.specs.Outcome.{SearchIn, searchOutcome}
 use Rattle.policy.specs.Check.{Passes, Acceptable, probing}
