@@ -1,5 +1,2 @@
-pub mod ProbedLists
-pub mod ProbedCells
-pub mod ProbedWalk
-pub mod SearchOutcome
-pub mod SearchSteps
+pub mod Tested
+pub mod Steps

@@ -1,4 +1,2 @@
-pub mod Search
 pub mod Outcome
-pub mod StubCells
 pub mod SearchInner

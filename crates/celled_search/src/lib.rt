@@ -2,19 +2,16 @@
 // zero at every end but that of tests 1 to 6.
 ghost use mathlib.Core.Path.{_≡_};
 ghost use lib.ListN.{length};
-ghost use Rattle.lists.specs.Lists.{fill};
-ghost use Rattle.metrics.specs.Distance.{zero32};
 ghost use Rattle.pq_params.specs.Lengths.{tableLong};
 ghost use Rattle.cell_walk.specs.Results.{searchOut, lent};
-ghost use Rattle.celled_search.specs.Outcome.{asking, searchIn, searchWorked, searchOutcome};
-ghost use Rattle.celled_search.specs.SearchInner.{Ready, Stepping, Blank};
+ghost use Rattle.probed_cells.specs.Search.{asking};
+ghost use Rattle.probed_cells.specs.ProbedInner.{Ready, Cleared};
+ghost use Rattle.celled_search.specs.Outcome.{searchIn, searchWorked, searchOutcome};
+ghost use Rattle.celled_search.specs.SearchInner.{Stepping};
 use answers::Searched;
 use pq_params::CelledShape;
 
-mod cells;
-mod stub;
-
-// Steps 2 to 5, with places for the cells to probe, into blank results; a refusal leaves them blank.
+// Steps 2 to 5, with places for the cells to probe. What is lent is clear, and a refusal leaves it so.
 fn search_nearest(
     s: CelledShape,
     n: usize,
@@ -32,8 +29,8 @@ fn search_nearest(
 ) -> Searched
     requires { ⌜ Stepping (asking s n (now query) (now mask) (now coarse) (now starts) (now members) (now subs) (now codes))
         (now probed) (now table) ⌝ }
-    requires { ⌜ Blank (length (now rows)) (now rows) (now sums) ⌝ }
-    ensures { λ r. ⌜ searchOut r (now (rows .exit)) (now (sums .exit)) (fill zero32 (length (now (table .entry)))) ≡
+    requires { ⌜ Cleared (lent (now rows) (now sums) (now table)) ⌝ }
+    ensures { λ r. ⌜ searchOut r (now (rows .exit)) (now (sums .exit)) (now (table .exit)) ≡
         searchWorked (asking s n (now (query .entry)) (now (mask .entry)) (now (coarse .entry)) (now (starts .entry))
         (now (members .entry)) (now (subs .entry)) (now (codes .entry)))
         (lent (now (rows .entry)) (now (sums .entry)) (now (table .entry))) ⌝ }
@@ -43,10 +40,10 @@ fn search_nearest(
     if refusal != 0 {
         return Searched::Refused(refusal);
     }
-    if !cells::probed_sound(s, n, probed, mask, starts, members, codes) {
+    if !probed_cells::probed_sound(s, n, probed, mask, starts, members, codes) {
         return Searched::Refused(10);
     }
-    cells::search_probed(
+    probed_cells::search_probed(
         s,
         n,
         probed,
@@ -63,8 +60,8 @@ fn search_nearest(
     )
 }
 
-// The five steps, into blank results; a refusal leaves them blank.
-fn search_steps(
+// The work of a search that tests 1 to 6 let pass: results blank and table zero, then the five steps.
+fn search_ready(
     s: CelledShape,
     n: usize,
     query: &[f32],
@@ -79,12 +76,14 @@ fn search_steps(
     table: &mut [f32],
 ) -> Searched
     requires { ⌜ Ready (asking s n (now query) (now mask) (now coarse) (now starts) (now members) (now subs) (now codes)) ⌝ }
-    requires { ⌜ Blank (length (now rows)) (now rows) (now sums) × (length (now table) ≡ tableLong (s .plain)) ⌝ }
-    ensures { λ r. ⌜ searchOut r (now (rows .exit)) (now (sums .exit)) (fill zero32 (length (now (table .entry)))) ≡
+    requires { ⌜ (length (now sums) ≡ length (now rows)) × (length (now table) ≡ tableLong (s .plain)) ⌝ }
+    ensures { λ r. ⌜ searchOut r (now (rows .exit)) (now (sums .exit)) (now (table .exit)) ≡
         searchWorked (asking s n (now (query .entry)) (now (mask .entry)) (now (coarse .entry)) (now (starts .entry))
         (now (members .entry)) (now (subs .entry)) (now (codes .entry)))
         (lent (now (rows .entry)) (now (sums .entry)) (now (table .entry))) ⌝ }
 {
+    cell_walk::blank(rows, sums);
+    lists::fill_floats(table, 0.0);
     if !celled_lists::starts_sound(starts, s.cells, n) {
         return Searched::Refused(10);
     }
@@ -107,48 +106,6 @@ fn search_steps(
     )
 }
 
-// The work of a search that tests 1 to 6 let pass: the results become blank, the steps fill them, and at every end the table is zero.
-fn search_ready(
-    s: CelledShape,
-    n: usize,
-    query: &[f32],
-    mask: &[u8],
-    coarse: &[f32],
-    starts: &[u32],
-    members: &[u32],
-    subs: &[f32],
-    codes: &[u8],
-    rows: &mut [u32],
-    sums: &mut [f32],
-    table: &mut [f32],
-) -> Searched
-    requires { ⌜ Ready (asking s n (now query) (now mask) (now coarse) (now starts) (now members) (now subs) (now codes)) ⌝ }
-    requires { ⌜ (length (now sums) ≡ length (now rows)) × (length (now table) ≡ tableLong (s .plain)) ⌝ }
-    ensures { λ r. ⌜ searchOut r (now (rows .exit)) (now (sums .exit)) (now (table .exit)) ≡
-        searchWorked (asking s n (now (query .entry)) (now (mask .entry)) (now (coarse .entry)) (now (starts .entry))
-        (now (members .entry)) (now (subs .entry)) (now (codes .entry)))
-        (lent (now (rows .entry)) (now (sums .entry)) (now (table .entry))) ⌝ }
-{
-    lists::fill_numbers(rows, 4_294_967_295);
-    lists::fill_floats(sums, 0.0);
-    let answer = search_steps(
-        s,
-        n,
-        query,
-        mask,
-        coarse,
-        starts,
-        members,
-        subs,
-        codes,
-        rows,
-        sums,
-        table,
-    );
-    lists::fill_floats(table, 0.0);
-    answer
-}
-
 // Celled search: the first k candidates in order, k being the results' length; how many were found, and how many rows were scored.
 pub fn search(
     s: CelledShape,
@@ -165,8 +122,8 @@ pub fn search(
     table: &mut [f32],
 ) -> Searched
     ensures { λ r. ⌜ searchOut r (now (rows .exit)) (now (sums .exit)) (now (table .exit)) ≡
-        searchOutcome (searchIn (asking s n (now (query .entry)) (now (mask .entry)) (now (coarse .entry)) (now (starts .entry))
-        (now (members .entry)) (now (subs .entry)) (now (codes .entry)))
+        searchOutcome (searchIn s n (now (query .entry)) (now (mask .entry)) (now (coarse .entry)) (now (starts .entry))
+        (now (members .entry)) (now (subs .entry)) (now (codes .entry))
         (lent (now (rows .entry)) (now (sums .entry)) (now (table .entry)))) ⌝ }
 {
     let l = pq_params::celled_lengths(s, n);

@@ -15,7 +15,8 @@ use Rattle.celled_lists.specs.Lists.{listSound}
 use Rattle.celled_probe.proofs.Nearest.{nearest-long, nearest-below}
 use Rattle.cell_table.specs.Tables.{Cell}
 use Rattle.cell_codes.specs.Codes.{codesSound}
-use Rattle.cell_walk.specs.CellInner.{cellOf, Searching}
+use Rattle.cell_walk.specs.CellInner.{cellOf, Searching, cellOutcome}
+use Rattle.cell_walk.specs.Results.{Lent, SearchOut}
 use Rattle.probed_cells.specs.Search.{Asked, startsGood, coarseDistance, probed, probedAt, membersAt, cellAt, cellSound, probedSound}
 use Rattle.probed_cells.specs.ProbedInner.{Listed, Ready, Walking, Probing}
 use Rattle.probed_cells.proofs.ProbedLists.{numbersOf, rows-are, list-few, list-rows}
@@ -38,9 +39,12 @@ module _ (a : Asked) where
     abbrev made : Cell
     made = cellOf (numbersOf (a .index .shape .plain) c list) (a .query) (a .index .coarse) (a .index .subs) (a .mask) (a .index .codes) list
 
-    pub cell-is : made ≡ cellAt a c
+    cell-is : made ≡ cellAt a c
     unfolding valueOf
     cell-is = rw (rows-are (a .index .shape .plain) c list, e)
+
+    pub cell-outcome : (l : Lent) (found : ℕ) (o : SearchOut) → o ≡ cellOutcome made l found → o ≡ cellOutcome (cellAt a c) l found
+    cell-outcome l found o h = h ∙ ap (λ (x : Cell). cellOutcome x l found) cell-is
 
     pub cell-searched : (table : List Float) → Walking a c table
         → Searching (numbersOf (a .index .shape .plain) c list) (a .query) (a .index .coarse) (a .index .subs) (a .mask) (a .index .codes) list table

@@ -1,6 +1,6 @@
 -- Cell after cell: the results hold the first k of the candidates of the cells passed, and at the end of all.
 use Prim.Native.Nat.{ℕ, _+_, _*_, _≤_, _<_}
-use mathlib.Core.Path.{_≡_, refl, sym, _∙_}
+use mathlib.Core.Path.{_≡_, refl, sym, _∙_, ap}
 use mathlib.Core.Bool.{true}
 use mathlib.Core.List.{List, _++_}
 use native.Mathlib.Nat.{suc-mul}
@@ -21,7 +21,7 @@ use Rattle.cell_walk.specs.Candidates.{cellFinite, candidates}
 use Rattle.cell_walk.specs.Results.{Lent, lent, searchOut, askedOf}
 use Rattle.cell_walk.specs.CellInner.{cellOutcome}
 use Rattle.cell_walk.proofs.Cells.{Holding, Next, holding-none, holding-next, cell-refused, cell-done, cell-broke, candidates-few}
-use Rattle.probed_cells.specs.Search.{Asked, probed, membersAt, probedCell, probedAt, probedFinite, allCandidates}
+use Rattle.probed_cells.specs.Search.{Asked, probed, membersAt, cellAt, probedCell, probedAt, probedFinite, allCandidates}
 use Rattle.probed_cells.specs.ProbedInner.{Cleared, probedOutcome}
 
 module _ (a : Asked) where
@@ -44,10 +44,13 @@ module _ (a : Asked) where
     few = omega arith;
   }
 
-  module _ (k p : ℕ) (rows : List ℕ) (sums table : List Float) (found scored : ℕ) (R : Reached k p rows sums found scored)
-      (r : Searched) (rows' : List ℕ) (sums' table' : List Float) (e : searchOut r rows' sums' table' ≡ cellOutcome (probedCell a p) (lent rows sums table) found) where
+  module _ (k p c : ℕ) (at : c ≡ probedAt a p) (rows : List ℕ) (sums table : List Float) (found scored : ℕ) (R : Reached k p rows sums found scored)
+      (r : Searched) (rows' : List ℕ) (sums' table' : List Float) (out : searchOut r rows' sums' table' ≡ cellOutcome (cellAt a c) (lent rows sums table) found) where
     abbrev here : Cell
     here = probedCell a p
+
+    e : searchOut r rows' sums' table' ≡ cellOutcome here (lent rows sums table) found
+    e = out ∙ ap (λ (m : ℕ). cellOutcome (cellAt a m) (lent rows sums table) found) at
 
     more : cellFinite here ≡ true → Next k (candidatesTo p) here r rows' sums'
     more t = holding-next k (candidatesTo p) here rows sums table found r rows' sums' table' (R .holds) t e

@@ -93,7 +93,8 @@ fn search_listed(
     found: usize,
     table: &mut [f32],
 ) -> Searched
-    requires { ⌜ Walking (asking s n (now query) (now mask) (now coarse) (now starts) (now members) (now subs) (now codes)) c (now table) ⌝ }
+    requires { ⌜ Walking (asking s n (now query) (now mask) (now coarse) (now starts) (now members) (now subs) (now codes))
+        c (now table) ⌝ }
     requires { ⌜ Held (now rows) (now sums) found ⌝ }
     ensures { λ r. ⌜ searchOut r (now (rows .exit)) (now (sums .exit)) (now (table .exit)) ≡
         cellOutcome (cellAt (asking s n (now (query .entry)) (now (mask .entry)) (now (coarse .entry)) (now (starts .entry))

@@ -3,11 +3,9 @@ use borrow.Author.Needs.{needs}
 use borrow.Author.Tests.{not-true, not-false}
 use mathlib.Core.Path.{sym, _∙_}
 use Rattle.cell_walk.specs.Results.{Lent, lent}
-use Rattle.celled_search.specs.Search.{Asked}
-use Rattle.celled_search.specs.Outcome.{asking}
-use Rattle.celled_search.proofs.ProbedCells.{listed-of}
-use Rattle.celled_search.proofs.SearchOutcome.{worked-coarse, worked-damaged, worked-probed}
-use Rattle.celled_search.proofs.SearchSteps.{blank-out, ranking, probe-not, probe-finite, probe-is, cells-in, sound-is}
+use Rattle.probed_cells.specs.Search.{Asked, asking}
+use Rattle.probed_cells.proofs.ProbedCells.{listed-of}
+use Rattle.celled_search.proofs.Steps.{cleared-out, worked-coarse, worked-damaged, worked-probed, ranking, probe-not, probe-finite, probe-is, cells-in, sound-is}
 use Rattle.celled_search.proofs.search_nearest.Statement.{statement}
 use Rattle.celled_search.proofs.search_nearest.Tie as tie
 
@@ -28,7 +26,7 @@ returns c =
     let l = lent-of (c .before .before .before .before .before .before .before .before .before .before .before .before .before .before .before .before .before) in
     let w = c .before .before .before .before .before .before .before .before .before .before .before .before .before .before .before .before .before .pre .0 in
     let n = probe-not a _ _ w _ _ (c .before .before .before .probe .ensures) (c .if1 .taken) in
-    blank-out l _ (c .before .before .before .before .before .before .before .before .before .before .before .before .before .before .before .before .before .pre .1) ∙ rw (n .1) (sym (worked-coarse a l (w .starts-good) (n .0)))
+    cleared-out l _ (c .before .before .before .before .before .before .before .before .before .before .before .before .before .before .before .before .before .pre .1) ∙ rw (n .1) (sym (worked-coarse a l (w .starts-good) (n .0)))
 
 probed-sound-requires : tie.Need-probed-sound-requires
 probed-sound-requires c κs =
@@ -44,7 +42,7 @@ returns-2 c =
     let p = c .before .before .before .before .before .before .probe .ensures in
     let z = c .before .before .before .if1 .left in
     let s = sym (sound-is a _ (probe-is a _ _ w _ _ p z)) ∙ sym (c .before .probed-sound .ensures) ∙ not-true _ (c .if2 .taken) in
-    blank-out l 10 (c .before .before .before .before .before .before .before .before .before .before .before .before .before .before .before .before .before .before .before .before .pre .1) ∙ sym (worked-damaged a l (w .starts-good) (probe-finite a _ _ w _ _ p z) s)
+    cleared-out l 10 (c .before .before .before .before .before .before .before .before .before .before .before .before .before .before .before .before .before .before .before .before .pre .1) ∙ sym (worked-damaged a l (w .starts-good) (probe-finite a _ _ w _ _ p z) s)
 
 search-probed-requires : tie.Need-search-probed-requires
 search-probed-requires c κs =
@@ -55,7 +53,6 @@ search-probed-requires c κs =
         ready = w .ready;
         starts-good = w .starts-good;
         list-is = i;
-        laws = w .laws;
         sound = sym (sound-is a _ i) ∙ sym (c .before .before .before .before .before .probed-sound .ensures) ∙ not-false _ (c .before .before .before .before .if2 .left);
         table-long = w .table-long;
       },

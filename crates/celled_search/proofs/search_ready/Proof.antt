@@ -1,10 +1,15 @@
--- `search_ready`: the steps begin with blank results, and what they leave of the table becomes zero.
+-- `search_ready`: the steps begin with what is cleared, and there is a place for each cell to probe.
 use borrow.Author.Needs.{needs}
+use borrow.Author.Tests.{not-true, not-false}
+use Prim.Native.Nat.{ℕ, _≤_}
+use mathlib.Core.Path.{_≡_, sym, _∙_, ap}
+use native.Mathlib.Omega.{arith}
+use lib.ListN.{length, take, replicate}
+use Rattle.lists.proofs.Tables.{take-fresh, length-tab}
+use Rattle.pq_params.proofs.Bounds.{celled-bounds}
 use Rattle.cell_walk.specs.Results.{Lent, lent}
-use Rattle.celled_search.specs.Search.{Asked}
-use Rattle.celled_search.specs.Outcome.{asking}
-use Rattle.celled_search.proofs.SearchOutcome.{worked-as}
-use Rattle.celled_search.proofs.SearchSteps.{blanked}
+use Rattle.probed_cells.specs.Search.{Asked, asking}
+use Rattle.celled_search.proofs.Steps.{cleared, worked-as, worked-starts}
 use Rattle.celled_search.proofs.search_ready.Statement.{statement}
 use Rattle.celled_search.proofs.search_ready.Tie as tie
 
@@ -16,14 +21,35 @@ asked-of c =
 abbrev lent-of : tie.Start → Lent
 lent-of c = let a = c .args in lent (a .rows .now) (a .sums .now) (a .table .now)
 
-search-steps-requires : tie.Need-search-steps-requires
-search-steps-requires c κs =
-    let p = c .before .before .before .before .before .before .before .before .before .before .before .before .before .before .before .before .before .before .before .before .before .pre in
-    (p .0, (blanked (c .before .before .before .before .before .before .before .before .before .before .before .before .before .before .before .before .before .before .before .before .before .args .rows .now) _ (c .before .before .before .before .before .before .before .before .before .before .before .before .before .before .before .before .before .before .before .before .before .args .sums .now) _ (p .1 .0) (c .before .before .before .before .before .before .before .before .before .fill-numbers .ensures) (c .before .before .before .before .before .fill-floats .ensures), p .1 .1))
+places-few : (c : tie.Start) → c .args .s .probes ≤ 1024
+places-few c = let b = celled-bounds (c .args .s) (c .pre .0 .good) in omega (arith, b .cells-most, b .probes-fit)
+
+places-long : (c : tie.Start) → length (take (c .args .s .probes) (replicate {A = ℕ} 1024 0)) ≡ c .args .s .probes
+places-long c = ap length (take-fresh {A = ℕ} 0 (c .args .s .probes) 1024 (places-few c)) ∙ length-tab _ _
 
 returns : tie.Need-returns
 returns c =
-    worked-as (asked-of (c .before .before .before .before .before .before .before .before .before .before .before .before .before .before .before .before .before .before .before .before .before .before .before .before .before .before .before .before .before .before .before .before)) (lent-of (c .before .before .before .before .before .before .before .before .before .before .before .before .before .before .before .before .before .before .before .before .before .before .before .before .before .before .before .before .before .before .before .before)) _ _ _ _ _ _ (c .before .before .before .before .before .before .before .before .before .before .search-steps .ensures) (c .before .before .fill-floats2 .ensures) (search needs) (search needs) (search needs)
+    worked-starts (asked-of (c .before .before .before .before .before .before .before .before .before .before .before .before .before .before .before .before .before .before .before .before .before .before .before)) (lent-of (c .before .before .before .before .before .before .before .before .before .before .before .before .before .before .before .before .before .before .before .before .before .before .before)) _ _ _ (c .before .before .before .before .before .before .before .before .before .before .blank .ensures) (c .before .before .before .before .fill-floats .ensures) (sym (c .before .starts-sound .ensures) ∙ not-true _ (c .if1 .taken))
+
+array-borrow-prefix-probed : tie.Need-array-borrow-prefix-probed
+array-borrow-prefix-probed c = let k = places-few (c .before .before .before .before .before .before .before .before .before .before .before .before .before .before .before .before .before .before .before .before .before .before .before) in search needs
+
+slice-aggregate-search-nearest : tie.Need-slice-aggregate-search-nearest
+slice-aggregate-search-nearest c = sym (places-long (c .before .before .before .before .before .before .before .before .before .before .before .before .before .before .before .before .before .before .before .before .before .before .before .before))
+
+search-nearest-requires : tie.Need-search-nearest-requires
+search-nearest-requires c κs = (
+  record {
+    ready = c .before .before .before .before .before .before .before .before .before .before .before .before .before .before .before .before .before .before .before .before .before .before .before .before .before .before .before .pre .0;
+    starts-good = sym (c .before .before .before .before .before .starts-sound .ensures) ∙ not-false _ (c .before .before .before .before .if1 .left);
+    places-long = places-long (c .before .before .before .before .before .before .before .before .before .before .before .before .before .before .before .before .before .before .before .before .before .before .before .before .before .before .before);
+    table-long = search needs;
+  },
+  cleared _ _ _ _ _ (c .before .before .before .before .before .before .before .before .before .before .before .before .before .before .blank .ensures) (c .before .before .before .before .before .before .before .before .fill-floats .ensures),
+)
+
+returns-2 : tie.Need-returns-2
+returns-2 c = worked-as (asked-of (c .before .before .before .before .before .before .before .before .before .before .before .before .before .before .before .before .before .before .before .before .before .before .before .before .before .before .before .before .before .before .before .before .before .before .before)) (lent-of (c .before .before .before .before .before .before .before .before .before .before .before .before .before .before .before .before .before .before .before .before .before .before .before .before .before .before .before .before .before .before .before .before .before .before .before)) _ _ (c .before .before .before .before .before .before .before .search-nearest .ensures) (search needs) (search needs)
 
 pub search-ready-spec : {M : Type 1} → statement M
 search-ready-spec =
@@ -31,9 +57,15 @@ search-ready-spec =
     (tie.spec
     (λ c κs. search needs)
     (λ c κs. search needs)
-    search-steps-requires
     (λ c κs. search needs)
     (λ c. search needs)
     (λ c. search needs)
     (λ c. search needs)
-    returns)
+    returns
+    array-borrow-prefix-probed
+    slice-aggregate-search-nearest
+    search-nearest-requires
+    (λ c. search needs)
+    (λ c. search needs)
+    (λ c. search needs)
+    returns-2)

@@ -45,17 +45,17 @@ returns c =
     let a = asked-of (c .before .before .before .before .before .before .before .before .before .before .before .before .before .before .before .before .before .before .before .before .before .before .before .before .before .before .before) in
     let l = c .before .before .before .before .before .before .before .before .before .before .before .before .before .before .before .loop in
     let w = c .before .before .before .before .before .before .before .before .before .before .before .before .before .before .before .before .before .before .before .before .before .before .before .before .before .before .before .pre .0 in
-    let at = probed-is a _ _ w (l .p) _ (c .before .before .before .before .before .before .before .before .before .before .before .before .wide .ensures) in
-    reached-not a (length (c .before .before .before .before .before .before .before .before .before .before .before .before .before .before .before .before .before .before .before .before .before .before .before .before .before .before .before .args .rows .now)) (l .p) _ _ _ _ _ (l .inv .4) _ _ _ _ (rw at at (c .before .before .before .before .before .before .before .before .search-listed .ensures))
-    (lent-of (c .before .before .before .before .before .before .before .before .before .before .before .before .before .before .before .before .before .before .before .before .before .before .before .before .before .before .before)) _ (sym (l .inv .1)) (sym (l .inv .3)) (rw (w .list-is) at (c .before .before .before .before .before .before .before .before .before .before .before .before .before .before .loop-test .taken)) (c .enum-told .given .1)
+    reached-not a (length (c .before .before .before .before .before .before .before .before .before .before .before .before .before .before .before .before .before .before .before .before .before .before .before .before .before .before .before .args .rows .now)) (l .p) _ (probed-is a _ _ w (l .p) _ (c .before .before .before .before .before .before .before .before .before .before .before .before .wide .ensures)) (l .rows) (l .sums) (l .table) (l .found) (l .scored) (l .inv .4)
+    _ _ _ _ (c .before .before .before .before .before .before .before .before .search-listed .ensures) (lent-of (c .before .before .before .before .before .before .before .before .before .before .before .before .before .before .before .before .before .before .before .before .before .before .before .before .before .before .before)) _ (sym (l .inv .1)) (sym (l .inv .3)) (rw (w .list-is) at (c .before .before .before .before .before .before .before .before .before .before .before .before .before .before .loop-test .taken)) (c .enum-told .given .1)
 
 add-scored : tie.Need-add-scored Inv-loop μ-loop
 add-scored c =
     let a = asked-of (c .before .before .before .before .before .before .before .before .before .before .before .before .before .before .before .before .before .before .before .before .before .before .before .before .before .before .before .before) in
     let l = c .before .before .before .before .before .before .before .before .before .before .before .before .before .before .before .before .loop in
     let w = c .before .before .before .before .before .before .before .before .before .before .before .before .before .before .before .before .before .before .before .before .before .before .before .before .before .before .before .before .pre .0 in
-    let at = probed-is a _ _ w (l .p) _ (c .before .before .before .before .before .before .before .before .before .before .before .before .before .wide .ensures) in
-    let f = counted-few a (length (c .before .before .before .before .before .before .before .before .before .before .before .before .before .before .before .before .before .before .before .before .before .before .before .before .before .before .before .before .args .rows .now)) (l .p) _ _ _ _ _ (l .inv .4) _ _ _ _ (rw at at (c .before .before .before .before .before .before .before .before .before .search-listed .ensures)) _ _ (probed-rows a _ _ w (l .p) (c .before .before .before .before .before .before .before .before .before .before .before .before .before .before .before .loop-test .taken)) (c .before .answer .given .1) in
+    let f =
+    counted-few a (length (c .before .before .before .before .before .before .before .before .before .before .before .before .before .before .before .before .before .before .before .before .before .before .before .before .before .before .before .before .args .rows .now)) (l .p) _ (probed-is a _ _ w (l .p) _ (c .before .before .before .before .before .before .before .before .before .before .before .before .before .wide .ensures)) (l .rows) (l .sums) (l .table) (l .found) (l .scored) (l .inv .4)
+    _ _ _ _ (c .before .before .before .before .before .before .before .before .before .search-listed .ensures) _ _ (probed-rows a _ _ w (l .p) (c .before .before .before .before .before .before .before .before .before .before .before .before .before .before .before .loop-test .taken)) (c .before .answer .given .1) in
     omega (arith, f, l .inv .4 .few, probed-few a _ _ w, c .before .before .before .before .before .before .before .before .before .before .before .before .before .before .before .loop-test .taken)
 
 add-p : tie.Need-add-p Inv-loop μ-loop
@@ -64,15 +64,14 @@ add-p c = omega (arith, probed-few (asked-of (c .before .before .before .before 
 loop-again : tie.Need-loop-again Inv-loop μ-loop
 loop-again c =
     let a = asked-of (c .before .before .before .before .before .before .before .before .before .before .before .before .before .before .before .before .before .before .before .before .before .before .before .before .before .before .before .before) in
-    let g = c .before .before .before .before .before .before .before .before .before .before .before .before .before .before .before .before .before .before .before .before .before .before .before .before .before .before .before .before .args in
     let l = c .before .before .before .before .before .before .before .before .before .before .before .before .before .before .before .before .loop in
-    let w = c .before .before .before .before .before .before .before .before .before .before .before .before .before .before .before .before .before .before .before .before .before .before .before .before .before .before .before .before .pre .0 in
-    let at = probed-is a _ _ w (l .p) _ (c .before .before .before .before .before .before .before .before .before .before .before .before .before .wide .ensures) in (
+    let w = c .before .before .before .before .before .before .before .before .before .before .before .before .before .before .before .before .before .before .before .before .before .before .before .before .before .before .before .before .pre .0 in (
       search needs,
       search needs,
       search needs,
       search needs,
-      reached-more a (length (g .rows .now)) (l .p) _ _ _ _ _ (l .inv .4) _ _ _ _ (rw at at (c .before .before .before .before .before .before .before .before .before .search-listed .ensures)) _ _ (probed-rows a _ _ w (l .p) (c .before .before .before .before .before .before .before .before .before .before .before .before .before .before .before .loop-test .taken)) (c .before .answer .given .1),
+      reached-more a (length (c .before .before .before .before .before .before .before .before .before .before .before .before .before .before .before .before .before .before .before .before .before .before .before .before .before .before .before .before .args .rows .now)) (l .p) _ (probed-is a _ _ w (l .p) _ (c .before .before .before .before .before .before .before .before .before .before .before .before .before .wide .ensures)) (l .rows) (l .sums) (l .table) (l .found) (l .scored) (l .inv .4)
+          _ _ _ _ (c .before .before .before .before .before .before .before .before .before .search-listed .ensures) _ _ (probed-rows a _ _ w (l .p) (c .before .before .before .before .before .before .before .before .before .before .before .before .before .before .before .loop-test .taken)) (c .before .answer .given .1),
     )
 
 returns-2 : tie.Need-returns-2 Inv-loop μ-loop
