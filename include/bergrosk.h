@@ -1,33 +1,48 @@
 /*
  * Bergrosk: a vector index (product quantization) of which every answer is proved.
  *
+ * A plain index codes every row, and a search scores all of them. A celled index first parts the
+ * rows among cells, codes each row by its difference from the centre of its cell, and a search
+ * scores the rows of the few cells that are nearest to the query.
+ *
  * Build the archive with `rt staticlib bergrosk` and link target/staticlib/libbergrosk.a. It is for
  * x86-64 Linux, allocates nothing, keeps no state, calls nothing but memset, and can be used from
- * any number of threads at once, each with its own buffers.
+ * any number of threads at once, each with its own buffers to be written.
  *
- * Buffers. A buffer is a pointer and a length in elements, and each must be exactly as long as
- * stated: bergrosk_plain_lengths works the lengths out. A buffer to be written must not overlap
- * another one. A pointer is aligned as its type asks, and may be NULL where its length is 0. Any
- * contents are safe: NaN, infinities, codes out of range and buffers not yet written to are
- * answered by a number, never by an access outside a buffer.
+ * Buffers. A buffer is a pointer and a length in elements, and must be exactly as long as stated:
+ * bergrosk_plain_lengths and bergrosk_celled_lengths work the lengths out. The caller owes that
+ * - the memory is there, as much as the length says, aligned as the type asks; where the length is
+ *   0 the pointer may be NULL;
+ * - a buffer to be written overlaps no other buffer of the same call.
+ * Nothing else is asked: any numbers, any lengths and any contents are safe. NaN, infinities, row
+ * numbers and codes out of range, lengths that are not the right ones and memory not yet written to
+ * are answered by a number, never by an access outside a buffer.
  *
- * Answers. Every function tests for itself, in this order, and says what it found:
+ * Answers. Every function tests for itself and answers what it found. 1 to 7 are tested in that
+ * order, those that apply; after each of them every buffer is as it was.
  *
  *    0  done
- *    1  d, n_sub, sub_bits or epochs outside its bounds                        nothing changed
- *    2  training with n = 0                                                    nothing changed
- *    3  n above 100,001                                                        nothing changed
- *    4  a buffer not of its length, or more than 16,777,216 draws              nothing changed
- *    5  k above 4,096                                                          nothing changed
- *    6  a row (training) or query (search) coordinate not finite               nothing changed
- *    7  a draw not in 0 <= draw < 1                                            nothing changed
- *    8  the training calls for a draw past the last one lent                   outputs and work zero
- *    9  a centre coordinate comes out not finite                               outputs and work zero
- *   10  a visible row has a code that no centre has                            results blank, table zero
- *   11  a table entry or a sum comes out not finite                            results blank, table zero
+ *    1  d, n_sub, sub_bits, cells, probes or epochs outside its bounds
+ *    2  training with n = 0
+ *    3  n above 100,001
+ *    4  a buffer not of its length, or more than 16,777,216 draws
+ *    5  k above 4,096
+ *    6  a row (training) or query (search) coordinate not finite
+ *    7  a draw not in 0 <= draw < 1
+ *    8  the training calls for a draw past the last one lent         outputs and work are zero
+ *    9  a centre coordinate comes out not finite                     outputs and work are zero
+ *   10  list or code damage, told of below: a search                 results blank, table zero
+ *       the same: the check                                          work is zero
+ *   11  a coarse distance, table entry or sum comes out not finite   results blank, table zero
  *
  * Bounds: d 1..256; n_sub 1..64 and at most d; sub_bits 0..8, for K = 2^sub_bits centres in each
- * sub-space; epochs 0..1000; n 0..100,001 rows; k 0..4,096 results.
+ * sub-space; cells 1..1024; probes 1..cells; epochs 0..1000; n 0..100,001 rows; k 0..4,096 results.
+ *
+ * Row policy. A search is lent a mask, and a row is visible to it where the row's byte is not 0. A
+ * hidden row is not scored, counted or found, and whatever its codes are, they refuse nothing. In a
+ * plain index, and in a celled one that bergrosk_celled_check accepts, hidden rows change nothing
+ * that a search answers or leaves in a buffer, neither by their codes nor by the cell that they
+ * stand in. The time that a search takes is not part of this.
  */
 #ifndef BERGROSK_H
 #define BERGROSK_H
@@ -35,12 +50,20 @@
 #include <stddef.h>
 #include <stdint.h>
 
-#ifdef __cplusplus
-extern "C" {
-#endif
+/*
+ * The version of this interface. The first number changes with a declaration or an answer that a
+ * program written before has to follow, the second with an addition that it need not know of.
+ */
+#define BERGROSK_VERSION_MAJOR 1
+#define BERGROSK_VERSION_MINOR 0
+#define BERGROSK_VERSION "1.0"
 
 /* The row number of a blank place of the results; its sum is 0. */
 #define BERGROSK_BLANK UINT32_C(4294967295)
+
+#ifdef __cplusplus
+extern "C" {
+#endif
 
 /* Where an 8 or 9 was met; all zero in every other answer. */
 typedef struct bergrosk_place {
@@ -63,7 +86,7 @@ typedef struct bergrosk_train_answer {
 typedef struct bergrosk_search_answer {
     uint32_t number; /* 0, 1, 3, 4, 5, 6, 10 or 11 */
     size_t found;    /* the places of the results that are filled */
-    size_t scored;   /* the rows that were candidates */
+    size_t scored;   /* the candidates: the visible rows, of a celled index in the probed cells */
 } bergrosk_search_answer;
 
 /* A range of coordinates, from begin up to but not including end. */
@@ -74,24 +97,66 @@ typedef struct bergrosk_range_answer {
 } bergrosk_range_answer;
 
 /* The lengths of a plain index's buffers, in elements; all 0 unless number is 0. */
-typedef struct bergrosk_lengths {
+typedef struct bergrosk_plain_buffers {
     uint32_t number; /* 0, 1 or 3 */
     size_t rows;     /* float: n * d */
     size_t subs;     /* float: K * C, C being the coordinates that the ranges cover */
     size_t codes;    /* uint8_t: n * n_sub */
     size_t work;     /* uint32_t: n + 1024 */
     size_t table;    /* float: n_sub * K */
-} bergrosk_lengths;
+} bergrosk_plain_buffers;
+
+/* The lengths of a celled index's buffers, in elements; all 0 unless number is 0. */
+typedef struct bergrosk_celled_buffers {
+    uint32_t number; /* 0, 1 or 3 */
+    size_t rows;     /* float: n * d */
+    size_t coarse;   /* float: cells * d */
+    size_t starts;   /* uint32_t: cells + 1 */
+    size_t members;  /* uint32_t: n */
+    size_t subs;     /* float: cells * K * C */
+    size_t codes;    /* uint8_t: n * n_sub */
+    size_t work;     /* uint32_t: n + 1024 */
+    size_t table;    /* float: n_sub * K */
+} bergrosk_celled_buffers;
+
+/* The parameters of a plain index and of its training. */
+typedef struct bergrosk_plain_params {
+    size_t n_sub;
+    size_t sub_bits;
+    size_t epochs;
+} bergrosk_plain_params;
+
+/* The parameters of a celled index and of its training. */
+typedef struct bergrosk_celled_params {
+    size_t n_sub;
+    size_t sub_bits;
+    size_t cells;
+    size_t probes;
+    size_t epochs;
+} bergrosk_celled_params;
+
+/* The defaults of a plain index: n_sub 4, sub_bits 4, epochs 100. */
+bergrosk_plain_params bergrosk_plain_defaults(void);
+
+/*
+ * The defaults of a celled index: n_sub 25, sub_bits 4, cells 256, probes 8, epochs 100. Where the
+ * cells come out small, 100 epochs call for more draws than may be lent, and 30 or fewer fit.
+ */
+bergrosk_celled_params bergrosk_celled_defaults(void);
 
 /*
  * The coordinates of sub-space i: 0, 0 for an i that is not below n_sub, and in answer 1.
- * The ranges cover C coordinates from 0 on, C being the end of the last; coordinates past C are
- * ignored in training and search (d 60 and n_sub 25 cover 50).
+ * The ranges cover C coordinates from 0 on, C being the end of the last; codes, and with them the
+ * sums of a search, ignore the coordinates past C (d 60 and n_sub 25 cover 50).
  */
 bergrosk_range_answer bergrosk_range(size_t d, size_t n_sub, size_t i);
 
 /* How long each buffer of a plain index of n rows must be. */
-bergrosk_lengths bergrosk_plain_lengths(size_t d, size_t n_sub, size_t sub_bits, size_t n);
+bergrosk_plain_buffers bergrosk_plain_lengths(size_t d, size_t n_sub, size_t sub_bits, size_t n);
+
+/* How long each buffer of a celled index of n rows must be. */
+bergrosk_celled_buffers bergrosk_celled_lengths(
+    size_t d, size_t n_sub, size_t sub_bits, size_t cells, size_t probes, size_t n);
 
 /*
  * Trains a plain index: the centres of each sub-space, and the code of each row in each sub-space.
@@ -116,17 +181,117 @@ bergrosk_train_answer bergrosk_plain_train(
  * Finds the k visible rows whose codes are nearest to a query, k being the length of the results.
  *
  *   query   d            the query
- *   mask    n            a row is visible where its byte is not 0; a hidden row changes nothing
+ *   mask    n            a row is visible where its byte is not 0
  *   subs    K * C        as trained
  *   codes   n * n_sub    as trained
- *   rows    k            written: row numbers, nearest first, equal sums by lower row, then blanks
+ *   rows    k            written: row numbers, nearest first, of equal sums the lower, then blanks
  *   sums    k            written: the squared distance of each
  *   table   n_sub * K    scratch; may hold anything, and is zero afterwards
+ *
+ * Damage, 10, is a visible row's code that is not below K.
  */
 bergrosk_search_answer bergrosk_plain_search(
     size_t d, size_t n_sub, size_t sub_bits, size_t n,
     const float *query, size_t query_len,
     const uint8_t *mask, size_t mask_len,
+    const float *subs, size_t subs_len,
+    const uint8_t *codes, size_t codes_len,
+    uint32_t *rows, size_t rows_len,
+    float *sums, size_t sums_len,
+    float *table, size_t table_len);
+
+/*
+ * Trains a celled index: the centre of each cell, the list of its rows, and in each cell the
+ * centres of each sub-space and the codes of its rows, both of a row less the centre of its cell.
+ *
+ *   rows      n * d           the rows, one after the other
+ *   draws     any             as for a plain index; they run through all cells and sub-spaces
+ *   coarse    cells * d       written: the centres of the cells
+ *   starts    cells + 1       written: the list of cell c stands among the members from starts[c]
+ *                             up to but not including starts[c + 1]
+ *   members   n               written: the row numbers of cell after cell, rising in each
+ *   subs      cells * K * C   written: cell after cell, each as in a plain index; zero in a cell
+ *                             without rows
+ *   codes     n * n_sub       written: row after row, by row number
+ *   work      n + 1024        scratch; may hold anything, and is zero afterwards
+ *
+ * The probes are tested, and nothing else is done with them. What is trained passes the check.
+ */
+bergrosk_train_answer bergrosk_celled_train(
+    size_t d, size_t n_sub, size_t sub_bits, size_t cells, size_t probes, size_t epochs, size_t n,
+    const float *rows, size_t rows_len,
+    const double *draws, size_t draws_len,
+    float *coarse, size_t coarse_len,
+    uint32_t *starts, size_t starts_len,
+    uint32_t *members, size_t members_len,
+    float *subs, size_t subs_len,
+    uint8_t *codes, size_t codes_len,
+    uint32_t *work, size_t work_len);
+
+/*
+ * Tests a celled index whole, as after it was stored and loaded again; answers 0, 1, 3, 4 or 10. It
+ * accepts, 0, exactly if numbers and lengths are right and
+ *
+ *   - the starts go from 0 to n and never fall;
+ *   - every row number below n stands once among the members, and the list of each cell rises;
+ *   - every code is below K.
+ *
+ *   coarse    cells * d       as trained, like the next four
+ *   starts    cells + 1
+ *   members   n
+ *   subs      cells * K * C
+ *   codes     n * n_sub
+ *   work      n + 1024        scratch; may hold anything, and is zero after 0 and 10
+ *
+ * A search of such an index is not answered 10, and finds no row twice. The centres are not looked
+ * at: a search answers 11 where a distance from one is not finite, and other damage to a centre
+ * cannot be seen.
+ */
+uint32_t bergrosk_celled_check(
+    size_t d, size_t n_sub, size_t sub_bits, size_t cells, size_t probes, size_t n,
+    const float *coarse, size_t coarse_len,
+    const uint32_t *starts, size_t starts_len,
+    const uint32_t *members, size_t members_len,
+    const float *subs, size_t subs_len,
+    const uint8_t *codes, size_t codes_len,
+    uint32_t *work, size_t work_len);
+
+/*
+ * Finds the k visible rows whose codes are nearest to a query, among the rows of some cells. It
+ * probes as many cells as `probes` says, those whose centres are nearest to the query, of equally
+ * near ones the lower; a cell without rows counts too. Each search may have its own number: with
+ * more probes more rows are scored, which takes longer; with probes = cells all visible rows are.
+ *
+ *   query     d               the query
+ *   mask      n               a row is visible where its byte is not 0
+ *   coarse    cells * d       as trained, like the next four
+ *   starts    cells + 1
+ *   members   n
+ *   subs      cells * K * C
+ *   codes     n * n_sub
+ *   rows      k               written: as by a plain search
+ *   sums      k               written: the squared distance of each
+ *   table     n_sub * K       scratch; may hold anything, and is zero afterwards
+ *
+ * After 1 to 6 come, in this order:
+ *
+ *   10  the starts do not go from 0 to n, or fall
+ *   11  the distance to the centre of a cell, probed or not, is not finite
+ *   10  a probed cell has a list that does not rise strictly, a member not below n, or a visible
+ *       row with a code not below K
+ *   11  a probed cell that has a visible row has a table entry, or a visible row's sum, that is not
+ *       finite
+ *
+ * The lists of other cells are not looked at. So in an index that the check does not accept, a row
+ * that stands in several lists can be found several times.
+ */
+bergrosk_search_answer bergrosk_celled_search(
+    size_t d, size_t n_sub, size_t sub_bits, size_t cells, size_t probes, size_t n,
+    const float *query, size_t query_len,
+    const uint8_t *mask, size_t mask_len,
+    const float *coarse, size_t coarse_len,
+    const uint32_t *starts, size_t starts_len,
+    const uint32_t *members, size_t members_len,
     const float *subs, size_t subs_len,
     const uint8_t *codes, size_t codes_len,
     uint32_t *rows, size_t rows_len,

@@ -1,6 +1,6 @@
 //! What is compared: a case is the input that both sides get, and these are the answers.
 
-use seat::{CelledParams, PlainParams};
+use seat::{CelledParams, PlainParams, Subject};
 
 /// One k-means over a list of members.
 #[derive(Clone, Debug)]
@@ -96,6 +96,11 @@ impl Kind {
             Kind::Plain => "plain",
             Kind::Celled => "celled",
         }
+    }
+
+    /// Whether a voice can be put cases of this kind.
+    pub fn is_had_by(self, subject: &dyn Subject) -> bool {
+        self != Kind::Kmeans || subject.kmeans().is_some()
     }
 }
 

@@ -30,7 +30,7 @@ fn not_refused(right: &Refused, reply: &Reply) -> Option<String> {
         Some(buffer) => {
             Some(format!("after refusal {} the {} are not zero", right.number, buffer.name))
         }
-        None => work_left(reply),
+        None => work_left(&reply.work),
     }
 }
 
@@ -49,9 +49,19 @@ fn same_place(right: &Refused, heard: Refusal) -> bool {
 }
 
 /// Work must be zero.
-fn work_left(reply: &Reply) -> Option<String> {
-    let place = reply.work.iter().position(|&w| w != 0)?;
+fn work_left(work: &[u32]) -> Option<String> {
+    let place = work.iter().position(|&w| w != 0)?;
     Some(format!("work is not zero at {place}"))
+}
+
+/// A trained celled index must pass the whole check.
+fn not_sound(reply: &Reply) -> Option<String> {
+    let (checked, work) = reply.check.as_ref()?;
+    let words = match checked {
+        Err(number) => Some(format!("refuses the trained index with {number}")),
+        Ok(()) => work_left(work),
+    };
+    words.map(|words| format!("the whole check: {words}"))
 }
 
 /// The Rust trained: draws used, every buffer, work, then every search.
@@ -68,10 +78,8 @@ fn not_trained(training: &Training, reply: &Reply) -> Option<String> {
     if let Some(words) = unequal {
         return words;
     }
-    if let Some(Err(number)) = reply.check {
-        return Some(format!("the whole check refuses the trained index with {number}"));
-    }
-    work_left(reply).or_else(|| {
+    assert_eq!(training.results.len(), reply.searches.len(), "a search for each query");
+    work_left(&reply.work).or_else(|| not_sound(reply)).or_else(|| {
         let pairs = training.results.iter().zip(&reply.searches).enumerate();
         pairs.map(|(at, (right, heard))| unequal_search(at, right, heard)).find(Option::is_some)?
     })

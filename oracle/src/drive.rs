@@ -1,8 +1,6 @@
 //! Puts a case to a voice: lends it buffers of the right lengths, filled with junk, and keeps what
 //! they hold afterwards.
 
-use std::time::Instant;
-
 use seat::{
     CelledCheck, CelledIndex, CelledSearch, CelledTraining, Checked, Kmeans, PlainParams,
     PlainSearch, PlainTraining, Searched, Subject, Trained,
@@ -15,16 +13,15 @@ pub struct Reply {
     pub answer: Trained,
     pub buffers: Vec<Buffer>,
     pub work: Vec<u32>,
-    /// The searches heard; none if the voice trains but does not search yet.
+    /// One for each query, if it trained.
     pub searches: Vec<Heard>,
-    /// What the whole check says to a trained celled index, if the voice has it.
-    pub check: Option<Checked>,
+    /// What the whole check says to a trained celled index, and the work that it leaves.
+    pub check: Option<(Checked, Vec<u32>)>,
 }
 
-/// One search as heard, and the seconds that it took.
+/// One search as heard.
 pub struct Heard {
     pub answer: Searched,
-    pub seconds: f64,
     pub rows: Vec<u32>,
     pub sums: Vec<f32>,
     pub table: Vec<f32>,
@@ -34,8 +31,8 @@ const JUNK_U32: u32 = 0xdead_beef;
 const JUNK_F32: f32 = -1.25e-7;
 const JUNK_U8: u8 = 0xaa;
 
-/// The reply of a voice; none if it lacks the entry point.
-pub fn hear(subject: &dyn Subject, case: &Case) -> Option<Reply> {
+/// The reply of a voice. It is put a k-means alone only if it has an entry point for one.
+pub fn hear(subject: &dyn Subject, case: &Case) -> Reply {
     match case {
         Case::Kmeans(case) => hear_kmeans(subject, case),
         Case::Plain(case) => hear_plain(subject, case),
@@ -44,10 +41,11 @@ pub fn hear(subject: &dyn Subject, case: &Case) -> Option<Reply> {
 }
 
 /// A k-means put to a voice.
-fn hear_kmeans(subject: &dyn Subject, case: &KmeansCase) -> Option<Reply> {
+fn hear_kmeans(subject: &dyn Subject, case: &KmeansCase) -> Reply {
     let mut centres = vec![JUNK_F32; case.n_center * (case.end - case.begin)];
     let mut assigned = vec![JUNK_U32; case.members.len()];
-    let answer = subject.kmeans(Kmeans {
+    let kmeans = subject.kmeans().expect("the voice has a k-means");
+    let answer = kmeans(Kmeans {
         d: case.d,
         rows: &case.rows,
         members: &case.members,
@@ -59,16 +57,16 @@ fn hear_kmeans(subject: &dyn Subject, case: &KmeansCase) -> Option<Reply> {
         draws: &case.draws,
         centres: &mut centres,
         assigned: &mut assigned,
-    })?;
+    });
     let buffers = vec![
         Buffer { name: "centres", words: Words::F32(centres) },
         Buffer { name: "assignment", words: Words::U32(assigned) },
     ];
-    Some(Reply { answer, buffers, work: Vec::new(), searches: Vec::new(), check: None })
+    Reply { answer, buffers, work: Vec::new(), searches: Vec::new(), check: None }
 }
 
 /// A plain index put to a voice.
-fn hear_plain(subject: &dyn Subject, case: &PlainCase) -> Option<Reply> {
+fn hear_plain(subject: &dyn Subject, case: &PlainCase) -> Reply {
     let (n, params) = (case.n(), case.params);
     let mut sub_centres = vec![JUNK_F32; page::covered(params.d, params.n_sub) << params.sub_bits];
     let mut codes = vec![JUNK_U8; n * params.n_sub];
@@ -82,17 +80,17 @@ fn hear_plain(subject: &dyn Subject, case: &PlainCase) -> Option<Reply> {
         sub_centres: &mut sub_centres,
         codes: &mut codes,
         work: &mut work,
-    })?;
+    });
     let mut searches = Vec::new();
     if answer.is_ok() {
         let search = |query| search_plain(subject, case, &sub_centres, &codes, query);
-        searches = case.queries.iter().filter_map(search).collect();
+        searches = case.queries.iter().map(search).collect();
     }
     let buffers = vec![
         Buffer { name: "sub-centres", words: Words::F32(sub_centres) },
         Buffer { name: "codes", words: Words::U8(codes) },
     ];
-    Some(Reply { answer, buffers, work, searches, check: None })
+    Reply { answer, buffers, work, searches, check: None }
 }
 
 /// One search of a trained plain index.
@@ -102,7 +100,7 @@ fn search_plain(
     sub_centres: &[f32],
     codes: &[u8],
     query: &Query,
-) -> Option<Heard> {
+) -> Heard {
     let (n, params) = (case.n(), case.params);
     let (codes, mask) = under_mask(query, codes, params, n);
     let (codes, mask, point) = (&codes[..], &mask[..], &query.point[..]);
@@ -168,7 +166,7 @@ impl CelledBuffers {
 }
 
 /// A celled index put to a voice.
-fn hear_celled(subject: &dyn Subject, case: &CelledCase) -> Option<Reply> {
+fn hear_celled(subject: &dyn Subject, case: &CelledCase) -> Reply {
     let (n, params) = (case.plain.n(), case.params());
     let mut lent = CelledBuffers::new(case);
     let mut work = vec![JUNK_U32; n + 1024];
@@ -184,17 +182,18 @@ fn hear_celled(subject: &dyn Subject, case: &CelledCase) -> Option<Reply> {
         sub_centres: &mut lent.sub_centres,
         codes: &mut lent.codes,
         work: &mut work,
-    })?;
+    });
     let mut searches = Vec::new();
     let mut check = None;
     if answer.is_ok() {
         let search = |query| search_celled(subject, case, &lent, query);
-        searches = case.plain.queries.iter().filter_map(search).collect();
+        searches = case.plain.queries.iter().map(search).collect();
         let mut work = vec![JUNK_U32; n + 1024];
         let index = lent.index(&lent.codes);
-        check = subject.check_celled(CelledCheck { params, n, index, work: &mut work });
+        let checked = subject.check_celled(CelledCheck { params, n, index, work: &mut work });
+        check = Some((checked, work));
     }
-    Some(Reply { answer, buffers: lent.named(), work, searches, check })
+    Reply { answer, buffers: lent.named(), work, searches, check }
 }
 
 /// One search of a trained celled index.
@@ -203,7 +202,7 @@ fn search_celled(
     case: &CelledCase,
     built: &CelledBuffers,
     query: &Query,
-) -> Option<Heard> {
+) -> Heard {
     let (n, params) = (case.plain.n(), case.params());
     let plain = params.plain;
     let (codes, mask) = under_mask(query, &built.codes, plain, n);
@@ -251,14 +250,9 @@ impl Lent {
         Lent { table: vec![JUNK_F32; table], rows: vec![JUNK_U32; k], sums: vec![JUNK_F32; k] }
     }
 
-    /// Runs one search over them, timed.
-    fn search(
-        mut self,
-        run: impl FnOnce(&mut [f32], &mut [u32], &mut [f32]) -> Option<Searched>,
-    ) -> Option<Heard> {
-        let begun = Instant::now();
-        let answer = run(&mut self.table, &mut self.rows, &mut self.sums)?;
-        let seconds = begun.elapsed().as_secs_f64();
-        Some(Heard { answer, seconds, rows: self.rows, sums: self.sums, table: self.table })
+    /// Runs one search over them.
+    fn search(mut self, run: impl FnOnce(&mut [f32], &mut [u32], &mut [f32]) -> Searched) -> Heard {
+        let answer = run(&mut self.table, &mut self.rows, &mut self.sums);
+        Heard { answer, rows: self.rows, sums: self.sums, table: self.table }
     }
 }

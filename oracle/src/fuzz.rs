@@ -1,18 +1,23 @@
-//! The command `fuzz`: calls of the library's face with anything, each checked whole against the
-//! page, in buffers beside which any access is a crash.
+//! The command `fuzz`: calls of every function of the library's face with anything, each checked whole
+//! against the page, in buffers beside which any access is a crash.
 
+mod call;
 mod check;
+mod content;
 mod crash;
 mod draft;
 mod lend;
+mod numbers;
 
 use std::collections::BTreeMap;
 use std::time::Instant;
 
 use crate::compare::seed_of;
 
-use check::{check, check_lengths};
-use draft::{draft, Call, Shape};
+use call::Function;
+use check::check;
+use content::{Damage, DAMAGES};
+use draft::draft;
 use lend::{Lender, Manner};
 
 /// What is to be called.
@@ -21,23 +26,35 @@ pub struct Order {
     pub seed: u64,
     /// One call alone, with its buffers printed.
     pub only: Option<usize>,
-    /// Buffers on the heap, for valgrind.
+    /// Buffers on the heap, for valgrind; then functions that are lent nothing are only called.
     pub heap: bool,
 }
 
-/// Every answer that each entry point has.
-const ANSWERS: [(&str, &[&str]); 4] = [
-    ("range", &["0", "1"]),
-    ("lengths", &["0", "1", "3"]),
-    (
-        "training",
-        &["0", "1", "2", "3", "4", "6", "7", "8", "9 start", "9 averaging", "9 splitting"],
-    ),
-    ("search", &["0", "1", "3", "4", "5", "6", "10", "11"]),
+/// Every answer that each function has; an 8 and a 9 by the k-means and the step that it names.
+#[rustfmt::skip]
+const ANSWERS: [(Function, &[&str]); 8] = [
+    (Function::Range, &["0", "1"]),
+    (Function::PlainLengths, &["0", "1", "3"]),
+    (Function::CelledLengths, &["0", "1", "3"]),
+    (Function::PlainTrain, &[
+        "0", "1", "2", "3", "4", "6", "7", "8 sub",
+        "9 sub start", "9 sub averaging", "9 sub splitting",
+    ]),
+    (Function::PlainSearch, &["0", "1", "3", "4", "5", "6", "10", "11"]),
+    (Function::CelledTrain, &[
+        "0", "1", "2", "3", "4", "6", "7", "8 coarse", "8 sub",
+        "9 coarse start", "9 coarse averaging", "9 coarse splitting", "9 sub start",
+    ]),
+    (Function::CelledSearch, &["0", "1", "3", "4", "5", "6", "10", "11"]),
+    (Function::CelledCheck, &["0", "1", "3", "4", "10"]),
 ];
 
-/// How often each entry point gave each answer.
-type Tally = BTreeMap<(&'static str, String), usize>;
+/// How often each function gave each answer, and how often to each damage of the lists.
+#[derive(Default)]
+struct Tally {
+    answers: BTreeMap<(Function, String), usize>,
+    to_damage: BTreeMap<(Function, String), usize>,
+}
 
 /// Runs the calls and prints what came of them; true if none differed and every answer was given.
 pub fn fuzz(order: &Order) -> bool {
@@ -48,16 +65,19 @@ pub fn fuzz(order: &Order) -> bool {
     let begun = Instant::now();
     println!("fuzz: {} calls, seed {}, {}", order.calls, order.seed, places(order));
     let mut lender = Lender::new();
-    let mut tally = Tally::new();
-    let differed = (0..order.calls).any(|at| !one(order, at, &mut lender, &mut tally));
-    let lengths_differ = !differed && !every_length();
-    if differed || lengths_differ {
+    let mut tally = Tally::default();
+    let equal = (0..order.calls).all(|at| one(order, at, &mut lender, &mut tally));
+    if !equal || !(order.heap || numbers::every_number()) {
+        println!("differences 1");
         return false;
     }
-    let all = print(&tally);
+    let missing = tally.print();
     println!("seconds {:.1}", begun.elapsed().as_secs_f64());
-    println!("calls {}, differences 0", order.calls);
-    all
+    match missing {
+        0 => println!("calls {}, differences 0", order.calls),
+        _ => println!("calls {}, differences 0, but answers never given {missing}", order.calls),
+    }
+    missing == 0
 }
 
 /// Where the buffers stand, in words.
@@ -68,23 +88,13 @@ fn places(order: &Order) -> &'static str {
     }
 }
 
-/// The name of a call's entry point in the tally.
-fn entry_point(call: &Call) -> &'static str {
-    match call {
-        Call::Range { .. } => "range",
-        Call::Lengths(_) => "lengths",
-        Call::Training(_) => "training",
-        Call::Search(_) => "search",
-    }
-}
-
 /// One call, counted; false if it differed, and then that is printed.
 fn one(order: &Order, at: usize, lender: &mut Lender, tally: &mut Tally) -> bool {
     let (call, manner) = draft(seed_of(order.seed, at));
     let manner = if order.heap { Manner::Heap } else { manner };
     let words = format!("call {at} of seed {}, {manner:?}: {}", order.seed, call.words());
     let outcome = crash::under_words(&words, || check(&call, manner, lender));
-    *tally.entry((entry_point(&call), outcome.answer)).or_insert(0) += 1;
+    tally.count(call.function, &outcome.answer, call.damage);
     match outcome.difference {
         Some(difference) => {
             println!("DIFFERENT: {words}: {difference}");
@@ -95,46 +105,55 @@ fn one(order: &Order, at: usize, lender: &mut Lender, tally: &mut Tally) -> bool
     }
 }
 
-/// One call alone, printed whole before it is made.
+/// One call alone, printed with its buffers before it is made.
 fn one_alone(order: &Order, at: usize) -> bool {
-    println!("{:?}", draft(seed_of(order.seed, at)));
-    let equal = one(order, at, &mut Lender::new(), &mut Tally::new());
+    draft(seed_of(order.seed, at)).0.print();
+    let equal = one(order, at, &mut Lender::new(), &mut Tally::default());
     println!("calls 1, differences {}", !equal as usize);
     equal
 }
 
-/// The lengths of every D, n_sub and sub_bits within bounds.
-fn every_length() -> bool {
-    let mut compared = 0;
-    for d in 1..=256 {
-        for n_sub in 1..=d.min(64) {
-            for sub_bits in 0..=8 {
-                let n = [0, 1, 1000, 100_001][(d + n_sub + sub_bits) % 4];
-                let shape = Shape { d, n_sub, sub_bits, epochs: 0, n };
-                if let Some(difference) = check_lengths(&shape).difference {
-                    println!("DIFFERENT: bergrosk_plain_lengths of {shape:?}: {difference}");
-                    return false;
-                }
-                compared += 1;
-            }
+impl Tally {
+    /// Counts an answer, and what it was given to.
+    fn count(&mut self, function: Function, answer: &str, damage: Option<&'static str>) {
+        *self.answers.entry((function, answer.to_string())).or_insert(0) += 1;
+        if let Some(damage) = damage {
+            *self.to_damage.entry((function, format!("{answer} to {damage}"))).or_insert(0) += 1;
         }
     }
-    println!("  lengths: {compared} triples of D, n_sub and sub_bits agree");
-    true
+
+    /// A line of counts for each function, and of those that must come up for each damage; how many
+    /// never did.
+    fn print(&self) -> usize {
+        let mut missing = 0;
+        for (function, answers) in ANSWERS {
+            let names: Vec<String> = answers.iter().map(|answer| answer.to_string()).collect();
+            missing += print_counts(function, &names, &self.answers);
+        }
+        let by_check = |damage: &Damage| vec![format!("10 to {}", damage.name)];
+        let by_search = |damage: &Damage| -> Vec<String> {
+            let answers = damage.to_search.iter();
+            answers.map(|number| format!("{number} to {}", damage.name)).collect()
+        };
+        let names: Vec<String> = DAMAGES.iter().flat_map(by_check).collect();
+        missing += print_counts(Function::CelledCheck, &names, &self.to_damage);
+        let names: Vec<String> = DAMAGES.iter().flat_map(by_search).collect();
+        missing + print_counts(Function::CelledSearch, &names, &self.to_damage)
+    }
 }
 
-/// A line of counts for each entry point; false if an answer was never given.
-fn print(tally: &Tally) -> bool {
-    let mut all = true;
-    for (entry, answers) in ANSWERS {
-        let count = |answer: &str| tally.get(&(entry, answer.to_string())).copied().unwrap_or(0);
-        let word = |answer: &&str| format!("{answer}: {}", count(answer));
-        let words: Vec<String> = answers.iter().map(word).collect();
-        println!("  {entry} answered {}", words.join(", "));
-        for answer in answers.iter().filter(|answer| count(answer) == 0) {
-            println!("  NEVER GIVEN: {answer} by {entry}");
-            all = false;
-        }
+/// A line of a function's counts, and a line for each that is 0; how many are.
+fn print_counts(
+    function: Function,
+    names: &[String],
+    counts: &BTreeMap<(Function, String), usize>,
+) -> usize {
+    let count = |name: &String| counts.get(&(function, name.clone())).copied().unwrap_or(0);
+    let words: Vec<String> = names.iter().map(|name| format!("{name}: {}", count(name))).collect();
+    println!("  {} answered {}", function.name(), words.join(", "));
+    let missing: Vec<&String> = names.iter().filter(|name| count(name) == 0).collect();
+    for name in &missing {
+        println!("  NEVER: {} answered {name}", function.name());
     }
-    all
+    missing.len()
 }

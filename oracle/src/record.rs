@@ -71,15 +71,24 @@ pub fn file(kind: Kind, folder: Option<&Path>) -> PathBuf {
 pub fn record(folder: Option<&Path>) -> bool {
     let cases = corners();
     print_corners(&cases);
-    let mut agree = true;
+    let mut agree = 0;
     for kind in Kind::ALL {
-        agree &= record_kind(&cases, kind, &file(kind, folder));
+        let path = file(kind, folder);
+        match record_kind(&cases, kind, &path) {
+            Ok(count) => agree += count,
+            Err(words) => {
+                println!("{}: {words}", path.display());
+                println!("not recorded");
+                return false;
+            }
+        }
     }
-    agree
+    println!("recorded and replayed with the page: {agree} of {} agree", cases.len());
+    agree == cases.len()
 }
 
-/// Writes the cases of one kind, then replays them; true if all of them agree.
-fn record_kind(cases: &[(Case, Training)], kind: Kind, path: &Path) -> bool {
+/// Writes the cases of one kind, then replays them; how many agree, or why they cannot be recorded.
+fn record_kind(cases: &[(Case, Training)], kind: Kind, path: &Path) -> Result<usize, String> {
     let chosen: Vec<_> = cases.iter().filter(|(case, _)| case.kind() == kind).collect();
     let mut bytes = MAGIC.to_vec();
     put(&mut bytes, &[VERSION, chosen.len() as u32]);
@@ -88,12 +97,9 @@ fn record_kind(cases: &[(Case, Training)], kind: Kind, path: &Path) -> bool {
         put(&mut bytes, &[kind as u32 + 1, body.len() as u32]);
         bytes.extend(body);
     }
-    if let Err(error) = fs::write(path, &bytes) {
-        println!("{}: {error}", path.display());
-        return false;
-    }
+    fs::write(path, &bytes).map_err(|error| error.to_string())?;
     println!("recorded {} cases of kind {}, {} bytes", chosen.len(), kind.name(), bytes.len());
-    replay::replay(&page::Page, path)
+    Ok(replay::replay(&page::Page, path)?.agree)
 }
 
 /// Appends words.

@@ -1,8 +1,8 @@
-//! The command `replay`: reads a file of recorded answers, puts each case to a voice, and says how
+//! The command `replay`: reads files of recorded answers, puts each case to a voice, and says how
 //! many agree. The layout stands in `record.rs`.
 
 use std::fs;
-use std::path::Path;
+use std::path::{Path, PathBuf};
 
 use seat::{PlainParams, Subject};
 
@@ -10,45 +10,64 @@ use crate::case::*;
 use crate::difference::difference;
 use crate::drive::hear;
 use crate::original::Verdict;
-use crate::record::{MAGIC, VERSION};
+use crate::record::{self, MAGIC, VERSION};
 
-/// Replays a file; true if every case agrees.
-pub fn replay(subject: &dyn Subject, path: &Path) -> bool {
-    let bytes = match fs::read(path) {
-        Ok(bytes) => bytes,
-        Err(error) => {
-            println!("{}: {error}", path.display());
-            return false;
-        }
-    };
-    let cases = match read(&bytes) {
-        Some(cases) => cases,
-        None => {
-            println!("{}: not laid out as a file of recorded answers", path.display());
-            return false;
-        }
-    };
-    let of = cases.len();
-    let mut agree = 0;
-    for (at, (case, training)) in cases.into_iter().enumerate() {
-        match disagreement(subject, &case, training) {
-            None => agree += 1,
-            Some(words) => println!("case {at} ({}): {words}", case.kind().name()),
-        }
-    }
-    println!("replayed with the {}: {agree} of {of} agree", subject.name());
-    agree == of
+/// How many cases were replayed, and how many of them agree.
+#[derive(Clone, Copy, Default)]
+pub struct Count {
+    pub cases: usize,
+    pub agree: usize,
 }
 
-/// Why a voice does not agree with a recorded answer; none if it does.
-fn disagreement(subject: &dyn Subject, case: &Case, training: Training) -> Option<String> {
-    let searches = training.results.len();
-    match hear(subject, case) {
-        None => Some("no entry point".to_string()),
-        Some(reply) => difference(&Verdict::Trained(training), &reply).or_else(|| {
-            (reply.searches.len() < searches).then(|| "no entry point for search".to_string())
-        }),
+/// Replays the files named, or else the file of each kind that the voice has; true if there are cases
+/// and all agree.
+pub fn replay_all(subject: &dyn Subject, named: &[PathBuf]) -> bool {
+    let paths = if named.is_empty() { in_place(subject) } else { named.to_vec() };
+    let mut all = Count::default();
+    for path in &paths {
+        match replay(subject, path) {
+            Ok(Count { cases, agree }) => {
+                println!("{}: {agree} of {cases} agree", path.display());
+                all = Count { cases: all.cases + cases, agree: all.agree + agree };
+            }
+            Err(words) => {
+                println!("{}: {words}", path.display());
+                println!("not replayed");
+                return false;
+            }
+        }
     }
+    println!("replayed with the {}: {} of {} agree", subject.name(), all.agree, all.cases);
+    all.cases > 0 && all.agree == all.cases
+}
+
+/// The files of the kinds that a voice has; says which it has not.
+fn in_place(subject: &dyn Subject) -> Vec<PathBuf> {
+    let (had, not_had): (Vec<Kind>, Vec<Kind>) =
+        Kind::ALL.into_iter().partition(|kind| kind.is_had_by(subject));
+    for kind in not_had {
+        println!("{}: the {} has no entry point for one alone", kind.name(), subject.name());
+    }
+    had.into_iter().map(|kind| record::file(kind, None)).collect()
+}
+
+/// Replays a file, and prints every case that does not agree; or why it cannot be replayed.
+pub fn replay(subject: &dyn Subject, path: &Path) -> Result<Count, String> {
+    let bytes = fs::read(path).map_err(|error| error.to_string())?;
+    let cases = read(&bytes).ok_or("not laid out as a file of recorded answers")?;
+    let mut count = Count { cases: cases.len(), agree: 0 };
+    for (at, (case, training)) in cases.into_iter().enumerate() {
+        let kind = case.kind();
+        if !kind.is_had_by(subject) {
+            let (voice, kind) = (subject.name(), kind.name());
+            return Err(format!("the {voice} has no entry point for {kind} alone"));
+        }
+        match difference(&Verdict::Trained(training), &hear(subject, &case)) {
+            None => count.agree += 1,
+            Some(words) => println!("case {at} ({}): {words}", kind.name()),
+        }
+    }
+    Ok(count)
 }
 
 /// The bytes not yet read.

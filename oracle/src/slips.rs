@@ -45,7 +45,7 @@ pub fn show(cases: usize, seed: u64) -> bool {
 /// The difference that a slipped voice shows on a case; a panic is one too.
 fn catch_difference(voice: &dyn Subject, case: &Case, verdict: &Verdict) -> Option<String> {
     match catch(|| hear(voice, case)) {
-        Ok(reply) => difference(verdict, &reply.expect("the page has every entry point")),
+        Ok(reply) => difference(verdict, &reply),
         Err(Panic::Said(text)) => Some(format!("panicked: {text}")),
         Err(Panic::OutOfDraws) => unreachable!("the page draws from its own list"),
     }
@@ -68,21 +68,24 @@ fn print(all: &[(&Slip, &dyn Subject)], seen: &[Option<Seen>], run: usize) -> bo
     }
     let same = all.iter().filter(|(slip, _)| slip.same_because.is_some()).count();
     let found = seen.iter().flatten().count();
-    println!("slips {}, seen {found}, the same by arithmetic {same}", all.len());
+    println!("seen {found}, the same by arithmetic {same}");
+    println!("slips {}, as they must be {right}", all.len());
     right == all.len()
 }
 
-/// Prints the smallest case at which one slip is seen.
-pub fn show_smallest(number: usize, cases: usize, seed: u64) -> bool {
-    let (slip, voice) = slips().nth(number).expect("there are fewer slips");
+/// Prints the smallest case at which one slip is seen; true if it is seen.
+pub fn show_smallest(number: usize, cases: usize, seed: u64) -> Result<bool, String> {
+    let fewer = || format!("there are {} slips, counted from 0", slips().count());
+    let (slip, voice) = slips().nth(number).ok_or_else(fewer)?;
     let differing =
         |case: &Case| catch(|| differs(voice, case)).map_or(true, |found| found.is_some());
     for run in 0..cases {
         let (case, _, _) = fitted(Kind::ALL[run % 3], seed_of(seed, run));
         if differing(&case) {
             println!("{}: {:?}", slip.says, shrink(case, &differing));
-            return true;
+            return Ok(true);
         }
     }
-    false
+    println!("{}: NOT SEEN in {cases} cases", slip.says);
+    Ok(false)
 }

@@ -24,8 +24,6 @@ struct OfKind {
     hiding: usize,
     checks: usize,
     outside: usize,
-    left_out: usize,
-    searches_left_out: usize,
 }
 
 impl OfKind {
@@ -39,20 +37,14 @@ impl OfKind {
         self.hiding += other.hiding;
         self.checks += other.checks;
         self.outside += other.outside;
-        self.left_out += other.left_out;
-        self.searches_left_out += other.searches_left_out;
     }
 }
 
 impl Tally {
-    /// Counts one case; no reply means that the voice has no such entry point.
-    pub fn count(&mut self, case: &Case, verdict: &Verdict, outside: usize, reply: Option<&Reply>) {
+    /// Counts one case, and how many drafts before it were outside the domain.
+    pub fn count(&mut self, case: &Case, verdict: &Verdict, outside: usize, reply: &Reply) {
         let of_kind = &mut self.kinds[case.kind() as usize];
         of_kind.outside += outside;
-        let Some(reply) = reply else {
-            of_kind.left_out += 1;
-            return;
-        };
         of_kind.checks += reply.check.is_some() as usize;
         match verdict {
             Verdict::Refused(refused) if refused.number == 8 => of_kind.refused_8 += 1,
@@ -61,7 +53,6 @@ impl Tally {
             Verdict::Trained(training) => {
                 of_kind.trained += 1;
                 of_kind.searches += reply.searches.len();
-                of_kind.searches_left_out += training.results.len() - reply.searches.len();
                 of_kind.refused_11 += training.results.iter().filter(|r| r.is_err()).count();
                 let queries = match case {
                     Case::Kmeans(_) => &[],
@@ -114,14 +105,8 @@ impl Tally {
 }
 
 impl OfKind {
-    /// Prints the counts of one kind, and what the voice has no entry point for.
+    /// Prints the counts of one kind.
     fn print(&self, name: &str) {
-        if self.left_out > 0 {
-            println!("  {name}: {} left out, no entry point", self.left_out);
-        }
-        if self.searches_left_out > 0 {
-            println!("  {name}: {} searches left out, no entry point", self.searches_left_out);
-        }
         if self.trained + self.refused_8 + self.refused_9 > 0 {
             println!(
                 "  {name}: trained {}, refused 8 {}, refused 9 {}; drafts outside the domain {}",

@@ -1,75 +1,31 @@
--- Each entry point's outcome as a C program sees it: the answer flattened into numbers, the lent buffers as they are.
+-- Each entry point's outcome as a C program sees it: what the answer says in numbers, and the lent buffers as they are.
 use Prim.Native.Nat.{ℕ}
 use mathlib.Core.List.{List}
 use mathlib.Core.Bool.{cond}
 use lib.ListN.{getD}
 use lib.Ieee.{Float}
+use Rattle.answers.specs.declared.TrainAnswer.{TrainAnswer}
+use Rattle.answers.specs.declared.SearchAnswer.{SearchAnswer}
+use Rattle.pq_params.specs.declared.Shape.{Shape}
+use Rattle.pq_params.specs.declared.CelledShape.{CelledShape}
 use Rattle.pq_params.specs.Bounds.{badRange}
 use Rattle.pq_params.specs.Ranges.{pairAt}
-use Rattle.kmeans.specs.declared.Step.{Step}
-use Rattle.kmeans.specs.declared.Step.the-variants.{Splitting}
-use Rattle.pq_train.specs.declared.Stage.{Stage}
-use Rattle.pq_train.specs.declared.Stage.the-variants.{Coarse, Sub}
-use Rattle.pq_train.specs.declared.Trained.{Trained}
-use Rattle.pq_train.specs.declared.Trained.the-variants.{Done, Refused, OutOfDraws, NotFinite}
-use Rattle.pq_idx.specs.declared.Searched.{Searched}
-use Rattle.pq_train.specs.Answers.{trainedNumber, drawsUsed, stepNumber}
-use Rattle.pq_idx.specs.Answers.{searchedNumber, foundOf, scoredOf}
-use Rattle.pq_idx.specs.Results.{SearchOut}
-use Rattle.pq_idx.specs.Outcomes.{TrainIn, TrainOut, trainOutcome, SearchIn, searchOutcome}
-use Rattle.bergrosk.specs.declared.Place.{Place}
-use Rattle.bergrosk.specs.declared.TrainAnswer.{TrainAnswer}
-use Rattle.bergrosk.specs.declared.SearchAnswer.{SearchAnswer}
+use Rattle.cell_walk.specs.Results.{SearchOut}
+use Rattle.celled_lists.specs.Index.{Index}
+use Rattle.plain_train.specs.Outcome as PlainTrain
+use Rattle.plain_search.specs.Outcome as PlainSearch
+use Rattle.celled_train.specs.Outcome as CelledTrain
+use Rattle.celled_check.specs.Check as CelledCheck
+use Rattle.celled_search.specs.Outcome as CelledSearch
 use Rattle.bergrosk.specs.declared.RangeAnswer.{RangeAnswer}
 
--- ---- training
+-- ---- the numbers of an index, from C's
 
-abbrev pub noPlace : Place
-noPlace = record { stage = 0; cell = 0; sub = 0; step = 0; epoch = 0; center = 0 }
+abbrev pub shapeOf : ℕ → ℕ → ℕ → Shape
+shapeOf d nsub bits = record { d = d; nsub = nsub; bits = bits }
 
--- stage: 0 for coarse; 1, with cell and sub-space, else
-abbrev pub placeAt : Stage → Step → ℕ → ℕ → Place
-placeAt Coarse step epoch center = record { stage = 0; cell = 0; sub = 0; step = stepNumber step; epoch = epoch; center = center }
-placeAt (Sub cell sub) step epoch center = record { stage = 1; cell = cell; sub = sub; step = stepNumber step; epoch = epoch; center = center }
-
--- Answers 8 and 9 name their place. Only a split calls for a draw.
-abbrev pub placeOf : Trained → Place
-placeOf (Done used) = noPlace
-placeOf (Refused number) = noPlace
-placeOf (OutOfDraws stage epoch center) = placeAt stage Splitting epoch center
-placeOf (NotFinite stage step epoch center) = placeAt stage step epoch center
-
-abbrev pub trainAnswerOf : Trained → TrainAnswer
-trainAnswerOf t = record { number = trainedNumber t; place = placeOf t; used = drawsUsed t }
-
-pub record TrainFace : Type 0 where
-  pub answer : TrainAnswer
-  pub subs : List Float
-  pub codes : List ℕ
-  pub work : List ℕ
-
-abbrev pub faceOfTraining : TrainOut → TrainFace
-faceOfTraining o = record { answer = trainAnswerOf (o .answer); subs = o .subs; codes = o .codes; work = o .work }
-
-unfoldable pub trainFaced : TrainIn → TrainFace
-trainFaced i = faceOfTraining (trainOutcome i)
-
--- ---- search
-
-abbrev pub searchAnswerOf : Searched → SearchAnswer
-searchAnswerOf s = record { number = searchedNumber s; found = foundOf s; scored = scoredOf s }
-
-pub record SearchFace : Type 0 where
-  pub answer : SearchAnswer
-  pub rows : List ℕ
-  pub sums : List Float
-  pub table : List Float
-
-abbrev pub faceOfSearch : SearchOut → SearchFace
-faceOfSearch o = record { answer = searchAnswerOf (o .answer); rows = o .rows; sums = o .sums; table = o .table }
-
-unfoldable pub searchFaced : SearchIn → SearchFace
-searchFaced i = faceOfSearch (searchOutcome i)
+abbrev pub celledShapeOf : ℕ → ℕ → ℕ → ℕ → ℕ → CelledShape
+celledShapeOf d nsub bits cells probes = record { plain = shapeOf d nsub bits; cells = cells; probes = probes }
 
 -- ---- ranges
 
@@ -80,3 +36,71 @@ rangeAnswerOf d nsub i = record {
   begin = getD (pairAt d nsub i) 0 0;
   end = getD (pairAt d nsub i) 1 0;
 }
+
+-- ---- plain training
+
+pub record PlainTrained : Type 0 where
+  pub said : TrainAnswer
+  pub subs : List Float
+  pub codes : List ℕ
+  pub work : List ℕ
+
+abbrev pub plainTrained : TrainAnswer → List Float → List ℕ → List ℕ → PlainTrained
+plainTrained said subs codes work = record { said = said; subs = subs; codes = codes; work = work }
+
+abbrev pub plainTrainedBy : PlainTrain.TrainOut → PlainTrained
+plainTrainedBy o = plainTrained (o .said) (o .subs) (o .codes) (o .work)
+
+unfoldable pub plainTrainFaced : PlainTrain.TrainIn → PlainTrained
+plainTrainFaced i = plainTrainedBy (PlainTrain.trainOutcome i)
+
+-- ---- celled training
+
+pub record CelledTrained : Type 0 where
+  pub said : TrainAnswer
+  pub index : Index
+  pub work : List ℕ
+
+abbrev pub celledTrained : TrainAnswer → Index → List ℕ → CelledTrained
+celledTrained said index work = record { said = said; index = index; work = work }
+
+abbrev pub celledTrainedBy : CelledTrain.TrainOut → CelledTrained
+celledTrainedBy o = celledTrained (o .said) (o .index) (o .work)
+
+unfoldable pub celledTrainFaced : CelledTrain.TrainIn → CelledTrained
+celledTrainFaced i = celledTrainedBy (CelledTrain.trainOutcome i)
+
+-- ---- the whole check
+
+pub record FacedCheck : Type 0 where
+  pub number : ℕ
+  pub work : List ℕ
+
+abbrev pub facedCheck : ℕ → List ℕ → FacedCheck
+facedCheck number work = record { number = number; work = work }
+
+abbrev pub facedCheckBy : CelledCheck.CheckOut → FacedCheck
+facedCheckBy o = facedCheck (o .number) (o .work)
+
+unfoldable pub checkFaced : CelledCheck.CheckIn → FacedCheck
+checkFaced i = facedCheckBy (CelledCheck.checkOutcome i)
+
+-- ---- search
+
+pub record FacedSearch : Type 0 where
+  pub said : SearchAnswer
+  pub rows : List ℕ
+  pub sums : List Float
+  pub table : List Float
+
+abbrev pub facedSearch : SearchAnswer → List ℕ → List Float → List Float → FacedSearch
+facedSearch said rows sums table = record { said = said; rows = rows; sums = sums; table = table }
+
+abbrev pub facedSearchBy : SearchOut → FacedSearch
+facedSearchBy o = facedSearch (o .said) (o .rows) (o .sums) (o .table)
+
+unfoldable pub plainSearchFaced : PlainSearch.SearchIn → FacedSearch
+plainSearchFaced i = facedSearchBy (PlainSearch.searchOutcome i)
+
+unfoldable pub celledSearchFaced : CelledSearch.SearchIn → FacedSearch
+celledSearchFaced i = facedSearchBy (CelledSearch.searchOutcome i)

@@ -1,13 +1,11 @@
 // Runs document 01's examples of the plain index, and their neighbours, through our training and search, and prints how many come out
 // as document 01 says.
-mod buffers;
-mod lent;
 mod odd;
 mod searches;
 mod trainings;
 
-use recorded::tally;
-use recorded::tally::Tally;
+use lending::tally;
+use lending::tally::Tally;
 
 // The trainings, then the searches.
 fn main() {

@@ -1,15 +1,15 @@
 // Examples of the plain search, in tables by their number: what document 01 says of each, beside its neighbour.
-use crate::buffers;
-use crate::odd::infinite;
-use crate::odd::nan;
-use crate::odd::narrow;
-use pq_idx::Searched;
-use recorded::compare;
-use recorded::parts;
-use recorded::tally::Tally;
+use crate::odd;
+use answers::SearchAnswer;
+use lending::buffers;
+use lending::held;
+use lending::listed;
+use lending::parts;
+use lending::tally::Tally;
+use pq_params::Shape;
 
 // The row number of a blank place.
-const BLANK: usize = 4_294_967_295;
+const BLANK: u32 = 4_294_967_295;
 
 // No row has this number.
 const NOBODY: usize = 4_294_967_295;
@@ -80,23 +80,29 @@ fn given(i: usize) -> [usize; 11] {
     }
 }
 
-// The row that is hidden, the first four codes, and the last one if there are more, the rest being 0.
-fn coded(i: usize) -> [usize; 6] {
+// The row that is hidden.
+fn hidden(i: usize) -> usize {
     match i {
-        1 => [3, 0, 1, 2, 3, 0],
-        6 | 7 => [NOBODY, 0, 0, 0, 0, 1],
-        8 | 9 | 10 | 11 | 12 | 13 | 14 | 30 | 33 | 34 => [NOBODY, 0, 0, 0, 0, 0],
-        15 | 16 => [NOBODY, 255, 0, 0, 0, 0],
-        28 => [NOBODY, 0, 1, 2, 4, 0],
-        29 => [3, 0, 1, 2, 4, 0],
-        31 => [0, 0, 0, 0, 0, 0],
-        32 => [NOBODY, 1, 0, 0, 0, 0],
-        _ => [NOBODY, 0, 1, 2, 3, 0],
+        1 | 29 => 3,
+        31 => 0,
+        _ => NOBODY,
     }
 }
 
-// Expected of the same examples: the answer's number, found, scored, and five row numbers, which blanks follow.
-fn expected(i: usize) -> [usize; 8] {
+// The first four codes, and the last one if there are more, the rest being 0.
+fn codes(i: usize) -> [u8; 5] {
+    match i {
+        6 | 7 => [0, 0, 0, 0, 1],
+        8 | 9 | 10 | 11 | 12 | 13 | 14 | 30 | 31 | 33 | 34 => [0, 0, 0, 0, 0],
+        15 | 16 => [255, 0, 0, 0, 0],
+        28 | 29 => [0, 1, 2, 4, 0],
+        32 => [1, 0, 0, 0, 0],
+        _ => [0, 1, 2, 3, 0],
+    }
+}
+
+// Expected: the answer's number, found, scored, and five row numbers, which blanks follow.
+fn expected(i: usize) -> [u32; 8] {
     match i {
         0 | 26 => [0, 3, 4, 3, 1, 0, BLANK, BLANK],
         1 | 29 => [0, 3, 3, 1, 0, 2, BLANK, BLANK],
@@ -123,8 +129,8 @@ fn values(i: usize) -> [f32; 10] {
         6 => [2.0, 0.0, 0.0, 2.0, 0.0, 0.0, 0.0, 0.0, 0.0, 0.0],
         7 | 8 | 10 | 11 | 13 | 14 | 16 => [0.0, 0.0, 0.0, 0.0, 0.0, 0.0, 0.0, 0.0, 0.0, 0.0],
         9 | 12 | 15 => [0.0, 0.0, 3.0, 4.0, 0.0, 0.0, 0.0, 0.0, 0.0, 0.0],
-        24 | 27 => [0.0, nan(), 2.0, 0.0, 1.0, 0.0, 0.0, 2.0, 0.5, 0.5],
-        25 => [infinite(), 0.0, 2.0, 0.0, 1.0, 0.0, 0.0, 2.0, 0.5, 0.5],
+        24 | 27 => [0.0, odd::nan(), 2.0, 0.0, 1.0, 0.0, 0.0, 2.0, 0.5, 0.5],
+        25 => [odd::infinite(), 0.0, 2.0, 0.0, 1.0, 0.0, 0.0, 2.0, 0.5, 0.5],
         26 => [-0.0, -0.0, 2.0, 0.0, 1.0, 0.0, 0.0, 2.0, 0.5, 0.5],
         30 | 31 => [0.0, 0.0, 0.0, TO_64, 0.0, 0.0, 0.0, 0.0, 0.0, 0.0],
         32 => [0.0, 0.0, 0.0, TO_63, 0.0, 0.0, 0.0, 0.0, 0.0, 0.0],
@@ -148,129 +154,125 @@ fn sums(i: usize) -> [f32; 5] {
     }
 }
 
+// The index's numbers.
+fn shape(g: [usize; 11]) -> Shape {
+    Shape {
+        d: g[0],
+        nsub: g[1],
+        bits: g[2],
+    }
+}
+
 // Whether an answer is the one expected.
-fn is_answer(a: Searched, x: [usize; 8]) -> bool {
-    match a {
-        Searched::Done { found, scored } => (x[0] == 0) & (found == x[1]) & (scored == x[2]),
-        Searched::Refused(number) => (x[0] == lists::wide(number)) & (0 < number),
-    }
+fn is_answer(a: SearchAnswer, x: [u32; 8]) -> bool {
+    (a.number == x[0]) & (a.found == lists::wide(x[1])) & (a.scored == lists::wide(x[2]))
 }
 
-// Whether no buffer was written.
+// Whether results and table are as they were.
 fn is_untouched(rows: &[u32], sums: &[f32], table: &[f32]) -> bool {
-    compare::numbers_are(rows, buffers::DIRTY_NUMBER)
-        & compare::floats_are(sums, buffers::DIRTY_FLOAT)
-        & compare::floats_are(table, buffers::DIRTY_FLOAT)
+    listed::numbers_are(rows, buffers::DIRTY_NUMBER)
+        & listed::floats_are(sums, buffers::DIRTY_FLOAT)
+        & listed::floats_are(table, buffers::DIRTY_FLOAT)
 }
 
-// Whether row numbers are those expected, blanks standing after the fifth.
-fn are_rows(x: [usize; 8], s: &[u32]) -> bool {
-    for j in 0..s.len() {
-        let row = if j < 5 { x[3 + j] } else { BLANK };
-        if lists::wide(s[j]) != row {
-            return false;
-        }
-    }
-    true
+// Whether results and table are those expected: after 10 and 11 blank and zero.
+fn is_written(x: [u32; 8], y: [f32; 5], rows: &[u32], sums: &[f32], table: &[f32]) -> bool {
+    let named = [x[3], x[4], x[5], x[6], x[7]];
+    let summed = y;
+    listed::numbers(rows, &named, BLANK)
+        & listed::floats(sums, &summed, 0.0)
+        & listed::floats_are(table, 0.0)
 }
 
-// Whether the results and the table that were lent are those expected: after 10 and 11 blank and zero.
-fn is_written(
-    g: [usize; 11],
-    x: [usize; 8],
-    y: [f32; 5],
-    rows: &[u32],
-    sums: &[f32],
-    table: &[f32],
-) -> bool {
-    let list = y;
-    are_rows(x, parts::numbers(rows, g[8]))
-        & compare::listed_floats(parts::floats(sums, g[9]), &list)
-        & compare::floats_are(parts::floats(table, g[10]), 0.0)
-}
-
-// Whether the buffers are left as they must be: after refusals 1 to 6 as they were.
-fn is_left(
-    g: [usize; 11],
-    x: [usize; 8],
-    y: [f32; 5],
-    rows: &[u32],
-    sums: &[f32],
-    table: &[f32],
-) -> bool {
+// Whether results and table are left as they must be: after refusals 1 to 6 as they were.
+fn is_left(x: [u32; 8], y: [f32; 5], rows: &[u32], sums: &[f32], table: &[f32]) -> bool {
     if (0 < x[0]) & (x[0] < 7) {
         is_untouched(rows, sums, table)
     } else {
-        is_written(g, x, y, rows, sums, table)
+        is_written(x, y, rows, sums, table)
     }
 }
 
-// What is asked.
-fn asked(g: [usize; 11]) -> [usize; 4] {
-    [g[0], g[1], g[2], g[3]]
+// Whether a search comes out as document 01 says, in the first elements of larger buffers, as many as are to be lent.
+fn searches_in(
+    g: [usize; 11],
+    x: [u32; 8],
+    y: [f32; 5],
+    query: &[f32],
+    mask: &[u8],
+    subs: &[f32],
+    codes: &[u8],
+    rows: &mut [u32],
+    sums: &mut [f32],
+    table: &mut [f32],
+) -> bool {
+    let r = held::numbers(rows, g[8]);
+    let s = held::floats(sums, g[9]);
+    let t = held::floats(table, g[10]);
+    let a = plain_search::search(
+        shape(g),
+        g[3],
+        parts::floats(query, g[4]),
+        parts::bytes(mask, g[5]),
+        parts::floats(subs, g[6]),
+        parts::bytes(codes, g[7]),
+        &mut rows[..r],
+        &mut sums[..s],
+        &mut table[..t],
+    );
+    is_answer(answers::search_answer(a), x)
+        & is_left(
+            x,
+            y,
+            parts::numbers(rows, r),
+            parts::floats(sums, s),
+            parts::floats(table, t),
+        )
 }
 
-// What is lent to be written.
-fn lent(g: [usize; 11]) -> [usize; 3] {
-    [g[8], g[9], g[10]]
-}
-
-// Whether a search comes out as document 01 says, from inputs that are written.
+// The same, in buffers that nobody wrote.
 fn searches(
     g: [usize; 11],
-    x: [usize; 8],
+    x: [u32; 8],
     y: [f32; 5],
     query: &[f32],
     mask: &[u8],
     subs: &[f32],
     codes: &[u8],
 ) -> bool {
-    let mut rows = buffers::found_rows();
-    let mut sums = buffers::found_sums();
-    let mut table = buffers::table();
-    let a = crate::lent::search(
-        asked(g),
-        lent(g),
-        parts::floats(query, g[4]),
-        parts::bytes(mask, g[5]),
-        parts::floats(subs, g[6]),
-        parts::bytes(codes, g[7]),
+    let mut rows = buffers::numbers(buffers::DIRTY_NUMBER);
+    let mut sums = buffers::floats(buffers::DIRTY_FLOAT);
+    let mut table = buffers::floats(buffers::DIRTY_FLOAT);
+    searches_in(
+        g,
+        x,
+        y,
+        query,
+        mask,
+        subs,
+        codes,
         &mut rows,
         &mut sums,
         &mut table,
-    );
-    is_answer(a, x) & is_left(g, x, y, &rows, &sums, &table)
+    )
 }
 
-// The query, and zeros after it.
-fn write_query(v: [f32; 10], out: &mut [f32]) {
-    for j in 0..out.len() {
-        out[j] = if j < 2 { v[j] } else { 0.0 };
-    }
+// The query and the sub-centres, and zeros after them.
+fn write_floats(v: [f32; 10], query: &mut [f32], subs: &mut [f32]) {
+    let point = [v[0], v[1]];
+    let centers = [v[2], v[3], v[4], v[5], v[6], v[7], v[8], v[9]];
+    listed::write_floats(&point, 0.0, query);
+    listed::write_floats(&centers, 0.0, subs);
 }
 
-// The sub-centres, and zeros after them.
-fn write_subs(v: [f32; 10], out: &mut [f32]) {
-    for j in 0..out.len() {
-        out[j] = if j < 8 { v[2 + j] } else { 0.0 };
-    }
-}
-
-// Code j.
-fn code(c: [usize; 6], n: usize, j: usize) -> u8 {
-    if j < 4 {
-        return narrow(c[1 + j]);
-    }
-    if n <= j {
-        return 0;
-    }
-    if n - j == 1 { narrow(c[5]) } else { 0 }
-}
-
-// The codes, and zeros after them.
-fn write_codes(c: [usize; 6], n: usize, out: &mut [u8]) {
-    for j in 0..out.len() {
-        out[j] = code(c, n, j);
+// The codes of n bytes: the first four, the last one if there are more, and zeros.
+fn write_codes(c: [u8; 5], n: usize, out: &mut [u8]) {
+    let first = [c[0], c[1], c[2], c[3]];
+    listed::write_bytes(&first, 0, out);
+    if 4 < n {
+        if n <= out.len() {
+            out[n - 1] = c[4];
+        }
     }
 }
 
@@ -282,26 +284,30 @@ fn hide(row: usize, mask: &mut [u8]) {
 }
 
 // Whether an example comes out as document 01 says.
-fn agrees(g: [usize; 11], c: [usize; 6], x: [usize; 8], v: [f32; 10], y: [f32; 5]) -> bool {
+fn agrees(g: [usize; 11], c: [u8; 5], row: usize, x: [u32; 8], v: [f32; 10], y: [f32; 5]) -> bool {
     let mut query = [0.0f32; 512];
     let mut subs = [0.0f32; 1_024];
-    let mut mask = buffers::mask();
-    let mut codes = buffers::codes();
-    write_query(v, &mut query);
-    write_subs(v, &mut subs);
-    hide(c[0], &mut mask);
+    let mut mask = buffers::bytes(128);
+    let mut codes = buffers::bytes(0);
+    write_floats(v, &mut query, &mut subs);
+    hide(row, &mut mask);
     write_codes(c, g[7], &mut codes);
     searches(g, x, y, &query, &mask, &subs, &codes)
 }
 
 // Counts the examples, and those that come out as document 01 says.
-pub fn agreeing(before: Tally) -> Tally {
+pub(crate) fn agreeing(before: Tally) -> Tally {
     let mut t = before;
     for i in 0..EXAMPLES {
-        t = recorded::tally::counted(
-            t,
-            agrees(given(i), coded(i), expected(i), values(i), sums(i)),
+        let agree = agrees(
+            given(i),
+            codes(i),
+            hidden(i),
+            expected(i),
+            values(i),
+            sums(i),
         );
+        t = lending::tally::counted(t, agree);
     }
     t
 }

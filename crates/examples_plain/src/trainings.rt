@@ -1,21 +1,17 @@
 // Examples of the plain training, in tables by their number: what document 01 says of each, beside its neighbour.
-use crate::buffers;
-use crate::odd::infinite;
-use crate::odd::nan;
-use crate::odd::narrow;
-use kmeans::Step;
-use pq_train::Stage;
-use pq_train::Trained;
-use recorded::compare;
-use recorded::parts;
-use recorded::tally::Tally;
+use crate::odd;
+use answers::TrainAnswer;
+use lending::buffers;
+use lending::held;
+use lending::listed;
+use lending::parts;
+use lending::tally::Tally;
+use pq_params::Shape;
 
-// The steps as numbers of a place; 8 names none.
-const START: usize = 1;
+// The steps as numbers of a place. An 8 is met while splitting.
+const START: u32 = 0;
 
-const AVERAGING: usize = 2;
-
-const SPLITTING: usize = 3;
+const SPLITTING: u32 = 2;
 
 // The largest number.
 const LARGEST: f32 = 340282346638528859811704183484516925440.0;
@@ -64,7 +60,8 @@ fn given(i: usize) -> [usize; 10] {
         26 => [1, 1, 0, 1, 1, 1, 1, 1, 1, 1_025],
         27 => [1, 1, 0, 1, 1, 1, 1, 1, 1, 1_025],
         28 => [1, 1, 0, 1, 2, 2, 1, 1, 2, 1_026],
-        // the split of rows (1,2), (3,4) in the first of two epochs, with four draws and with three; and with seven in the second of two sub-spaces
+        // the split of rows (1,2), (3,4) in the first of two epochs, with four draws and with three; and with seven in the second of
+        // two sub-spaces
         29 => [2, 1, 2, 2, 2, 4, 4, 8, 2, 1_026],
         30 => [2, 1, 2, 2, 2, 4, 3, 8, 2, 1_026],
         31 => [2, 2, 2, 2, 2, 4, 7, 8, 4, 1_026],
@@ -74,9 +71,8 @@ fn given(i: usize) -> [usize; 10] {
     }
 }
 
-// Expected of the same examples: the answer's number, the draws used, the place (sub-space, step, epoch, centre), and the last code;
-// the other codes are 0.
-fn expected(i: usize) -> [usize; 7] {
+// Expected: the answer's number, the draws used, the place (sub-space, step, epoch, centre), and the last code; the others are 0.
+fn expected(i: usize) -> [u32; 7] {
     match i {
         0 => [0, 0, 0, 0, 0, 0, 1],
         29 => [0, 4, 0, 0, 0, 0, 1],
@@ -86,8 +82,8 @@ fn expected(i: usize) -> [usize; 7] {
         15 | 16 | 17 | 18 => [4, 0, 0, 0, 0, 0, 0],
         19 | 20 | 28 => [6, 0, 0, 0, 0, 0, 0],
         23 | 24 | 25 => [7, 0, 0, 0, 0, 0, 0],
-        30 => [8, 0, 0, 0, 1, 3, 0],
-        31 => [8, 0, 1, 0, 1, 3, 0],
+        30 => [8, 0, 0, SPLITTING, 1, 3, 0],
+        31 => [8, 0, 1, SPLITTING, 1, 3, 0],
         32 => [9, 0, 0, START, 0, 0, 0],
         33 => [9, 0, 0, SPLITTING, 1, 1, 0],
         // 2, 5, 8, 10, 12, 21, 22, 26, 27
@@ -103,8 +99,8 @@ fn values(i: usize) -> [f32; 9] {
         2 | 5 | 29 => [1.0, 2.0, 3.0, 4.0, 0.0, 1.0, 2.0, 3.0, 4.0],
         8 | 10 | 26 | 27 => [5.0, 0.0, 0.0, 0.0, 0.0, 5.0, 0.0, 0.0, 0.0],
         12 => [5.0, 0.0, 0.0, 0.0, 0.0, 4.0, 6.0, 0.0, 0.0],
-        19 | 28 => [1.0, nan(), 0.0, 0.0, 0.0, 0.0, 0.0, 0.0, 0.0],
-        20 => [1.0, infinite(), 0.0, 0.0, 0.0, 0.0, 0.0, 0.0, 0.0],
+        19 | 28 => [1.0, odd::nan(), 0.0, 0.0, 0.0, 0.0, 0.0, 0.0, 0.0],
+        20 => [1.0, odd::infinite(), 0.0, 0.0, 0.0, 0.0, 0.0, 0.0, 0.0],
         21 => [LARGEST, 0.0, 0.0, 0.0, 0.0, LARGEST, 0.0, 0.0, 0.0],
         22 => [-0.0, 0.0, 0.0, 0.0, 0.0, 0.0, 0.0, 0.0, 0.0],
         30 | 31 => [1.0, 2.0, 3.0, 4.0, 0.0, 0.0, 0.0, 0.0, 0.0],
@@ -126,161 +122,129 @@ fn first_draw(i: usize) -> f64 {
     }
 }
 
-// The step as a number of a place.
-fn step_number(step: Step) -> usize {
-    match step {
-        Step::Start => START,
-        Step::Averaging => AVERAGING,
-        Step::Splitting => SPLITTING,
+// The index's numbers.
+fn shape(g: [usize; 10]) -> Shape {
+    Shape {
+        d: g[0],
+        nsub: g[1],
+        bits: g[2],
     }
 }
 
-// Whether a stage is the sub-space s of cell 0.
-fn is_stage(stage: Stage, s: usize) -> bool {
-    match stage {
-        Stage::Coarse => false,
-        Stage::Sub { cell, sub } => (cell == 0) & (lists::wide(sub) == s),
-    }
+// Whether a place is the one expected; an answer from 0 to 7 names none.
+fn is_place(p: answers::Place, x: [u32; 7]) -> bool {
+    let stage = if x[0] < 8 { 0 } else { 1 };
+    (p.stage == stage)
+        & (p.cell == 0)
+        & (p.sub == x[2])
+        & (p.step == x[3])
+        & (p.epoch == x[4])
+        & (p.center == x[5])
 }
 
-// Whether an answer is the one expected, with the draws used or the place.
-fn is_answer(t: Trained, x: [usize; 7]) -> bool {
-    match t {
-        Trained::Done(used) => (x[0] == 0) & (used == x[1]),
-        Trained::Refused(number) => (x[0] == lists::wide(number)) & (0 < number),
-        Trained::OutOfDraws {
-            stage,
-            epoch,
-            center,
-        } => (x[0] == 8) & is_place(stage, 0, epoch, center, x),
-        Trained::NotFinite {
-            stage,
-            step,
-            epoch,
-            center,
-        } => (x[0] == 9) & is_place(stage, step_number(step), epoch, center, x),
-    }
+// Whether an answer is the one expected, with the draws used and the place.
+fn is_answer(a: TrainAnswer, x: [u32; 7]) -> bool {
+    (a.number == x[0]) & (a.used == lists::wide(x[1])) & is_place(a.place, x)
 }
 
-// Whether a place is the one expected.
-fn is_place(stage: Stage, step: usize, epoch: u32, center: u32, x: [usize; 7]) -> bool {
-    let there = (lists::wide(epoch) == x[4]) & (lists::wide(center) == x[5]);
-    is_stage(stage, x[2]) & (step == x[3]) & there
-}
-
-// Whether no buffer was written.
+// Whether sub-centres, codes and work are as they were.
 fn is_untouched(subs: &[f32], codes: &[u8], work: &[u32]) -> bool {
-    compare::floats_are(subs, buffers::DIRTY_FLOAT)
-        & compare::bytes_are(codes, buffers::DIRTY_BYTE)
-        & compare::numbers_are(work, buffers::DIRTY_NUMBER)
-}
-
-// Whether the sub-centres, codes and words of work that were lent are those expected: after 8 and 9 all zero.
-fn is_written(
-    g: [usize; 10],
-    x: [usize; 7],
-    v: [f32; 9],
-    subs: &[f32],
-    codes: &[u8],
-    work: &[u32],
-) -> bool {
-    let list = [v[5], v[6], v[7], v[8]];
-    compare::listed_floats(parts::floats(subs, g[7]), &list)
-        & are_codes(x, parts::bytes(codes, g[8]))
-        & compare::numbers_are(parts::numbers(work, g[9]), 0)
-}
-
-// Whether the buffers are left as they must be: after refusals 1 to 7 as they were.
-fn is_left(
-    g: [usize; 10],
-    x: [usize; 7],
-    v: [f32; 9],
-    subs: &[f32],
-    codes: &[u8],
-    work: &[u32],
-) -> bool {
-    if (0 < x[0]) & (x[0] < 8) {
-        is_untouched(subs, codes, work)
-    } else {
-        is_written(g, x, v, subs, codes, work)
-    }
-}
-
-// What is asked.
-fn asked(g: [usize; 10]) -> [usize; 5] {
-    [g[0], g[1], g[2], g[3], g[4]]
-}
-
-// What is lent to be written.
-fn lent(g: [usize; 10]) -> [usize; 3] {
-    [g[7], g[8], g[9]]
-}
-
-// A first draw, then document 01's of the split, and again.
-fn draws_from(draw: f64) -> [f64; 8] {
-    [draw, 0.25, 0.5, 0.4, 0.0, 0.25, 0.5, 0.4]
-}
-
-// Whether an example comes out as document 01 says, from rows that are written and a first draw.
-fn trains(g: [usize; 10], x: [usize; 7], v: [f32; 9], draw: f64, rows: &[f32]) -> bool {
-    let draws = draws_from(draw);
-    let mut subs = buffers::subs();
-    let mut codes = buffers::codes();
-    let mut work = buffers::work();
-    let t = crate::lent::train(
-        asked(g),
-        lent(g),
-        parts::floats(rows, g[5]),
-        parts::draws(&draws, g[6]),
-        &mut subs,
-        &mut codes,
-        &mut work,
-    );
-    is_answer(t, x) & is_left(g, x, v, &subs, &codes, &work)
-}
-
-// Coordinate j of the rows.
-fn coordinate(g: [usize; 10], v: [f32; 9], j: usize) -> f32 {
-    if j < 4 {
-        return v[j];
-    }
-    if g[5] <= j {
-        return 0.0;
-    }
-    if g[5] - j == 1 { v[4] } else { 0.0 }
-}
-
-// The rows, and zeros after them.
-fn write_rows(g: [usize; 10], v: [f32; 9], out: &mut [f32]) {
-    for j in 0..out.len() {
-        out[j] = coordinate(g, v, j);
-    }
+    listed::floats_are(subs, buffers::DIRTY_FLOAT)
+        & listed::bytes_are(codes, buffers::DIRTY_BYTE)
+        & listed::numbers_are(work, buffers::DIRTY_NUMBER)
 }
 
 // Whether all codes are 0 but the last one, which is the one expected.
-fn are_codes(x: [usize; 7], s: &[u8]) -> bool {
-    let last = narrow(x[6]);
-    for j in 0..s.len() {
-        let code = if s.len() - j == 1 { last } else { 0 };
-        if s[j] != code {
-            return false;
+fn are_codes(last: u32, s: &[u8]) -> bool {
+    let n = s.len();
+    if n == 0 {
+        return true;
+    }
+    listed::bytes_are(parts::bytes(s, n - 1), 0) & (odd::wide(s[n - 1]) == last)
+}
+
+// Whether sub-centres, codes and work are those expected: after 8 and 9 all zero.
+fn is_written(x: [u32; 7], v: [f32; 9], subs: &[f32], codes: &[u8], work: &[u32]) -> bool {
+    let list = [v[5], v[6], v[7], v[8]];
+    listed::floats(subs, &list, 0.0) & are_codes(x[6], codes) & listed::numbers_are(work, 0)
+}
+
+// Whether sub-centres, codes and work are left as they must be: after refusals 1 to 7 as they were.
+fn is_left(x: [u32; 7], v: [f32; 9], subs: &[f32], codes: &[u8], work: &[u32]) -> bool {
+    if (0 < x[0]) & (x[0] < 8) {
+        is_untouched(subs, codes, work)
+    } else {
+        is_written(x, v, subs, codes, work)
+    }
+}
+
+// Whether a training comes out as document 01 says, in the first elements of larger buffers, as many as are to be lent.
+fn trains_in(
+    g: [usize; 10],
+    x: [u32; 7],
+    v: [f32; 9],
+    rows: &[f32],
+    draws: &[f64],
+    subs: &mut [f32],
+    codes: &mut [u8],
+    work: &mut [u32],
+) -> bool {
+    let y = held::floats(subs, g[7]);
+    let c = held::bytes(codes, g[8]);
+    let w = held::numbers(work, g[9]);
+    let t = plain_train::train(
+        shape(g),
+        g[3],
+        g[4],
+        parts::floats(rows, g[5]),
+        parts::draws(draws, g[6]),
+        &mut subs[..y],
+        &mut codes[..c],
+        &mut work[..w],
+    );
+    is_answer(answers::train_answer(t), x)
+        & is_left(
+            x,
+            v,
+            parts::floats(subs, y),
+            parts::bytes(codes, c),
+            parts::numbers(work, w),
+        )
+}
+
+// The same, in buffers that nobody wrote, with a first draw that document 01's of the split follow, twice.
+fn trains(g: [usize; 10], x: [u32; 7], v: [f32; 9], draw: f64, rows: &[f32]) -> bool {
+    let draws = [draw, 0.25, 0.5, 0.4, 0.0, 0.25, 0.5, 0.4];
+    let mut subs = buffers::floats(buffers::DIRTY_FLOAT);
+    let mut codes = buffers::bytes(buffers::DIRTY_BYTE);
+    let mut work = buffers::numbers(buffers::DIRTY_NUMBER);
+    trains_in(g, x, v, rows, &draws, &mut subs, &mut codes, &mut work)
+}
+
+// The n coordinates of the rows: the first four, the last one if there are more, and zeros.
+fn write_rows(v: [f32; 9], n: usize, out: &mut [f32]) {
+    let first = [v[0], v[1], v[2], v[3]];
+    listed::write_floats(&first, 0.0, out);
+    if 4 < n {
+        if n <= out.len() {
+            out[n - 1] = v[4];
         }
     }
-    true
 }
 
 // Whether an example comes out as document 01 says.
-fn agrees(g: [usize; 10], x: [usize; 7], v: [f32; 9], draw: f64) -> bool {
-    let mut rows = buffers::rows();
-    write_rows(g, v, &mut rows);
+fn agrees(g: [usize; 10], x: [u32; 7], v: [f32; 9], draw: f64) -> bool {
+    let mut rows = buffers::floats(0.0);
+    write_rows(v, g[5], &mut rows);
     trains(g, x, v, draw, &rows)
 }
 
 // Counts the examples, and those that come out as document 01 says.
-pub fn agreeing(before: Tally) -> Tally {
+pub(crate) fn agreeing(before: Tally) -> Tally {
     let mut t = before;
     for i in 0..EXAMPLES {
-        t = recorded::tally::counted(t, agrees(given(i), expected(i), values(i), first_draw(i)));
+        let agree = agrees(given(i), expected(i), values(i), first_draw(i));
+        t = lending::tally::counted(t, agree);
     }
     t
 }

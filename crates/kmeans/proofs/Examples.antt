@@ -11,10 +11,17 @@ use Rattle.lists.specs.Examples.{Example, agree}
 use Rattle.metrics.specs.Distance.{sumTo, squared, worked}
 use Rattle.metrics.specs.declared.Worked.{Worked}
 use Rattle.metrics.specs.declared.Worked.the-variants.{Finite, NotFinite}
-use Rattle.kmeans.specs.declared.Clustered.{Clustered}
-use Rattle.kmeans.specs.declared.Clustered.the-variants.{Done, OutOfDraws}
-use Rattle.kmeans.specs.declared.Clustered.the-variants.{NotFinite as CenterNotFinite}
-use Rattle.kmeans.specs.Kmeans.{Task, Run, finiteCenter, meanAt, startAt, started, nearest, assignedOf, sumWhere, meanOf, averageAt, splitCenters, splitCounts, splitOff, fillCenter, splitTo, averaged, epochOf, beginning, epochsTo, train, numberOf}
+use Rattle.answers.specs.declared.Clustered.{Clustered}
+use Rattle.answers.specs.declared.Stage.the-variants.{Coarse}
+use Rattle.answers.specs.Answers.{clusterSaid}
+use Rattle.kmeans_assign.specs.Task.{Task}
+use Rattle.kmeans_split.specs.Run.{Run}
+use Rattle.kmeans_average.specs.Finite.{finiteCenter}
+use Rattle.kmeans_start.specs.Start.{meanAt, startAt, started, meanOf}
+use Rattle.kmeans_assign.specs.Assign.{nearest, assignedOf}
+use Rattle.kmeans_average.specs.Average.{sumWhere, averageAt}
+use Rattle.kmeans_split.specs.Split.{splitCenters, splitCounts, splitOff, fillCenter, splitTo}
+use Rattle.kmeans.specs.Kmeans.{averaged, epochOf, beginning, epochsTo, train}
 
 -- 1.0, 2.0, 3.0, 4.0, by their bits
 abbrev f1 : ℕ
@@ -50,14 +57,11 @@ task epochs draws = record {
   draws = map (ofBits binary64) draws;
 }
 
--- what an answer says after its number: the draws used, or the epoch and the centre
-abbrev after : Clustered → List ℕ
-after (Done used) = used ∷ []
-after (OutOfDraws epoch center) = epoch ∷ center ∷ []
-after (CenterNotFinite step epoch center) = epoch ∷ center ∷ []
-
+-- what an answer says: its number, the draws used, the step, the epoch and the centre
 abbrev saidBy : Clustered → List ℕ
-saidBy c = numberOf c ∷ after c
+saidBy c =
+    let said = clusterSaid Coarse c in
+    said .number ∷ said .used ∷ said .place .step ∷ said .place .epoch ∷ said .place .center ∷ []
 
 abbrev bits : List Float → List ℕ
 bits l = map (toBits binary32) l
@@ -91,17 +95,17 @@ kmeansTable =
     -- split of that
     ∷ row (bits (splitRun .centers)) (0x3f80_2000 ∷ 0x3fff_c000 ∷ 0x4040_3000 ∷ 0x407f_c000 ∷ 0x3f7f_c000 ∷ 0x4000_2000 ∷ 0x403f_d000 ∷ 0x4080_2000 ∷ [])
     ∷ row (splitRun .counts) (1 ∷ 1 ∷ 0 ∷ 0 ∷ [])
-    ∷ row (saidBy (splitRun .answer)) (0 ∷ 4 ∷ [])
+    ∷ row (saidBy (splitRun .answer)) (0 ∷ 4 ∷ 0 ∷ 0 ∷ 0 ∷ [])
     -- with three draws
-    ∷ row (saidBy (train (task 2 threeDraws) 0 .answer)) (8 ∷ 1 ∷ 3 ∷ [])
+    ∷ row (saidBy (train (task 2 threeDraws) 0 .answer)) (8 ∷ 0 ∷ 2 ∷ 1 ∷ 3 ∷ [])
     -- a donor count of 5
     ∷ row (splitCounts (0 ∷ 5 ∷ []) 0 1) (2 ∷ 3 ∷ [])
     -- no epoch, one and two: no split in the last
-    ∷ row (saidBy (train (task 0 fourDraws) 0 .answer)) (0 ∷ 0 ∷ [])
+    ∷ row (saidBy (train (task 0 fourDraws) 0 .answer)) (0 ∷ 0 ∷ 0 ∷ 0 ∷ 0 ∷ [])
     ∷ row (bits (train (task 0 fourDraws) 0 .centers)) (f1 ∷ f2 ∷ f3 ∷ f2 ∷ f1 ∷ f2 ∷ f3 ∷ f2 ∷ [])
-    ∷ row (saidBy (train (task 1 fourDraws) 0 .answer)) (0 ∷ 0 ∷ [])
+    ∷ row (saidBy (train (task 1 fourDraws) 0 .answer)) (0 ∷ 0 ∷ 0 ∷ 0 ∷ 0 ∷ [])
     ∷ row (bits (train (task 1 fourDraws) 0 .centers)) (f1 ∷ f2 ∷ f3 ∷ f4 ∷ 0 ∷ 0 ∷ 0 ∷ 0 ∷ [])
-    ∷ row (saidBy (train (task 2 fourDraws) 0 .answer)) (0 ∷ 4 ∷ [])
+    ∷ row (saidBy (train (task 2 fourDraws) 0 .answer)) (0 ∷ 4 ∷ 0 ∷ 0 ∷ 0 ∷ [])
     ∷ row (bits (train (task 2 fourDraws) 0 .centers)) (f1 ∷ f2 ∷ f3 ∷ f4 ∷ 0 ∷ 0 ∷ 0 ∷ 0 ∷ [])
     ∷ []
 

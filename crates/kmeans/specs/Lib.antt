@@ -1,5 +1,1 @@
 pub mod Kmeans
-pub mod Assigned
-pub mod Splits
-pub mod Frame
-pub mod Inner

@@ -69,6 +69,15 @@ module _ (f : ℕ → Bool) where
       go true e g = last-or p n k (λ q. ap f q ∙ e) (g (omega (arith, count-yes f n e)))
       go false e g = absurd (omega (arith, count-no f n e, count-le f n))
 
+  -- f holds everywhere, or nowhere
+  pub count-all : (n : ℕ) → ((p : ℕ) → p < n → f p ≡ true) → count f n ≡ n
+  count-all zero u = count-zero f
+  count-all (suc n) u = count-yes f n (u n (omega arith)) ∙ ap suc (count-all n (λ p h. u p (omega arith)))
+
+  pub count-none : (n : ℕ) → ((p : ℕ) → f p ≡ false) → count f n ≡ 0
+  count-none zero u = count-zero f
+  count-none (suc n) u = count-no f n (u n) ∙ count-none n u
+
 -- ---- of n numbers, those below k
 
 abbrev pub under : (ℕ → ℕ) → ℕ → ℕ → Bool
@@ -78,7 +87,8 @@ abbrev pub met : (ℕ → ℕ) → ℕ → ℕ → Bool
 met g k p = eqb (g p) k
 
 module _ (g : ℕ → ℕ) where
-  count-split : (k n : ℕ) → count (under g (suc k)) n ≡ count (under g k) n + count (met g k) n
+  -- the numbers below k + 1 are those below k and those that are k
+  pub count-split : (k n : ℕ) → count (under g (suc k)) n ≡ count (under g k) n + count (met g k) n
   count-split k zero = omega (arith, count-zero (under g (suc k)), count-zero (under g k), count-zero (met g k))
   count-split k (suc n) = go (count-split k n)
     where

@@ -1,9 +1,10 @@
 -- Laws on lists that stand one after the other in a flat buffer: of unequal lengths, and of one width w.
-use Prim.Native.Nat.{ℕ, zero, suc, _+_, _*_, _≤_, _<_}
+use Prim.Native.Nat.{ℕ, zero, suc, _+_, _*_, _-_, _≤_, _<_}
 use mathlib.Core.Path.{_≡_, refl, sym, _∙_, ap, ap₂}
 use mathlib.Core.List.{List, [], _∷_, _++_, append-assoc, append-nil}
 use native.Mathlib.Nat.{suc-mul, zero-mul, mul-le-mul-right, zero-add, suc-add}
 use native.Mathlib.Numerals.{add-one}
+use native.Mathlib.Decide.{decLt}
 use native.Mathlib.Omega.{arith}
 use lib.ListN.{length, take, drop, getD, set, length-append, length-drop, drop-of-length-le}
 use lib.Seq.{take-all, take-add, drop-drop, drop-length, getD-drop, set-append-left}
@@ -35,6 +36,17 @@ module _ {ℓ} {A : Type ℓ} (g : ℕ → List A) (at : ℕ → ℕ) (b : Begin
       last-or i n h
       (λ e. rw e (part-seam (join g n) (g n) (at n) (length (g n)) l ∙ take-all (length (g n)) (g n) (omega arith)))
       (λ k. part-append (join g n) (g n) (at i) (length (g i)) (omega (arith, within-join n i k)) ∙ part-join n i k)
+
+  pub getD-join : (n i j : ℕ) (d : A) → i < n → j < length (g i) → getD (join g n) (at i + j) d ≡ getD (g i) j d
+  getD-join n i j d h k = sym (getD-part (join g n) (at i) (length (g i)) j d k) ∙ ap (λ (l : List A). getD l j d) (part-join n i h)
+
+  -- each place is one of a list
+  pub in-list : (n p : ℕ) → p < at n → (i : ℕ) × (j : ℕ) × (i < n) × (j < length (g i)) × (at i + j ≡ p)
+  in-list zero p h = absurd (omega (arith, b .first))
+  in-list (suc n) p h = elim (decLt p (at n)) [
+    | yes k ↦ let s = in-list n p k in (s .0, s .1, omega arith, s .3, s .4)
+    | no k ↦ (n, p - at n, omega arith, omega (arith, b .next n), omega arith)
+  ]
 
   -- A loop that fills o from the front, a list a turn: none is stored, one more is stored, what is not yet stored is what was there, and o is full.
   pub join-none : (o : List A) → o ≡ join g 0 ++ drop (at 0) o

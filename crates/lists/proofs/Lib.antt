@@ -6,3 +6,7 @@ pub mod Tests
 pub mod Counting
 pub mod Rising
 pub mod Examples
+pub mod Determinacy
+pub mod Walks
+pub mod Counts
+pub mod Kept

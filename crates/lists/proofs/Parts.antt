@@ -2,9 +2,10 @@
 use Prim.Native.Nat.{ℕ, suc, _+_, _-_, _≤_, _<_, min}
 use mathlib.Core.Path.{_≡_, sym, _∙_}
 use mathlib.Core.List.{List, [], _∷_, _++_, append-assoc}
+use native.Mathlib.Nat.{add-sub-cancel-left}
 use native.Mathlib.Omega.{arith}
 use lib.ListN.{length, take, drop, set, getD, length-append, length-take, length-drop, List·getD-append, take-append-drop}
-use lib.Seq.{length-take-le, take-append-le, drop-append-le, take-at, drop-at, take-all, getD-take, getD-drop, getD-append-add, drop-cons, set-at}
+use lib.Seq.{length-take-le, take-append-le, drop-append-le, take-at, drop-at, take-all, getD-take, getD-drop, getD-append-add, drop-cons, set-at, take-set-le, drop-set-add, set-append-left}
 use Rattle.lists.specs.Lists.{part, putPart}
 
 module _ {ℓ} {A : Type ℓ} where
@@ -100,3 +101,23 @@ module _ {ℓ} {A : Type ℓ} where
   part-put s p a w h e =
       let l : length (take a s) ≡ a = simp length-take (omega arith) in
       rw (drop-at (take a s) (p ++ drop w (drop a s)) a l) (take-at p (drop w (drop a s)) w e)
+
+  -- a store within a part that was put in
+  pub set-put : (s p : List A) (a w j : ℕ) (v : A) → a ≤ length s → j < length p → set (putPart s a w p) (a + j) v ≡ putPart s a w (set p j v)
+  unfolding putPart
+  set-put s p a w j v h k =
+      let l = length-take-le a s h in
+      let t = p ++ drop w (drop a s) in
+      let q = drop w (drop a s) in
+      sym (take-append-drop a (set (take a s ++ t) (a + j) v))
+      ∙ rw (take-set-le a (take a s ++ t) (a + j) v (omega arith), drop-set-add, take-at (take a s) t a l, drop-at (take a s) t a l, set-append-left p q j v k)
+
+  -- the rest of a list from a on
+  pub part-rest : (s : List A) (a : ℕ) → part s a (length s - a) ≡ drop a s
+  unfolding part
+  part-rest s a = take-all (length s - a) (drop a s) (omega (arith, length-drop a s))
+
+  -- a slice from a up to e is the part of w elements from a on
+  pub slice-part : (s : List A) (a e b w : ℕ) (l : List A) → e ≡ a + w → a ≡ b → part s b w ≡ l → take (e - a) (drop a s) ≡ l
+  unfolding part
+  slice-part s a e b w l p q r = rw (p, add-sub-cancel-left a w, q) r

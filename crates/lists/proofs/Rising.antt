@@ -1,4 +1,4 @@
--- Laws on lists of numbers that rise.
+-- Laws on numbers that rise, and on numbers that never fall.
 use Prim.Native.Nat.{ℕ, zero, suc, _-_, _≤_, _<_}
 use mathlib.Core.Path.{_≡_}
 use mathlib.Core.Bool.{Bool, true, false, cond}
@@ -6,6 +6,7 @@ use mathlib.Core.List.{List, [], _∷_}
 use native.Mathlib.Omega.{arith}
 use lib.ListN.{length, getD}
 use Rattle.lists.specs.Tests.{keep, rising}
+use Rattle.lists.proofs.Tables.{last-or}
 use Rattle.lists.proofs.Tests.{every-below, below-every}
 
 -- ---- each element is below the next
@@ -49,3 +50,13 @@ rises-keep f (x ∷ l) b r = go (f x) (rises-keep f l (suc x) (r .1))
     go : (t : Bool) → Rises (suc x) (keep f l) → Rises b (cond t (x ∷ keep f l) (keep f l))
     go true q = (r .0, q)
     go false q = rises-lower (keep f l) (suc x) b (omega arith) q
+
+-- ---- none is above the next
+
+module _ (f : ℕ → ℕ) (n : ℕ) (u : (i : ℕ) → i < n → f i ≤ f (suc i)) where
+  -- so none is above a later one
+  pub never-falls : (i j : ℕ) → i ≤ j → j ≤ n → f i ≤ f j
+  never-falls i zero h k = let e : i ≡ 0 = omega arith in rw e (omega arith)
+  never-falls i (suc j) h k =
+      last-or i (suc j) (omega arith) (λ e. rw e (omega arith))
+      (λ l. omega (arith, never-falls i j (omega arith) (omega arith), u j (omega arith)))

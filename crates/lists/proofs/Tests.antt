@@ -31,6 +31,22 @@ none-from a [] h j = refl
 none-from a (b ∷ bs) h zero = or-r a b (none-first (a || b) bs h)
 none-from a (b ∷ bs) h (suc j) = none-from (a || b) bs h j
 
+-- tests in two lists, and one test before the others
+any-append : (a : Bool) (bs cs : List Bool) → anyFrom a (bs ++ cs) ≡ anyFrom (anyFrom a bs) cs
+any-append a [] cs = refl
+any-append a (b ∷ bs) cs = any-append (a || b) bs cs
+
+pub none-left : (bs cs : List Bool) → anyOf (bs ++ cs) ≡ false → anyOf bs ≡ false
+none-left bs cs h = none-first (anyOf bs) cs (sym (any-append false bs cs) ∙ h)
+
+any-true : (bs : List Bool) → anyFrom true bs ≡ true
+any-true [] = refl
+any-true (b ∷ bs) = any-true bs
+
+pub any-cons : (a : Bool) (bs : List Bool) → (a || anyOf bs) ≡ anyOf (a ∷ bs)
+any-cons true bs = sym (any-true bs)
+any-cons false bs = refl
+
 pub none : (bs : List Bool) → anyOf bs ≡ false → (j : ℕ) → getD bs j false ≡ false
 none bs h = none-from false bs h
 

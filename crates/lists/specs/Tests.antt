@@ -34,5 +34,8 @@ keep f [] = []
 keep f (x ∷ xs) = cond (f x) (x ∷ keep f xs) (keep f xs)
 
 -- whether each element is below the next
+abbrev pub risesAt : List ℕ → ℕ → Bool
+risesAt l i = ltb (getD l i 0) (getD l (suc i) 0)
+
 unfoldable pub rising : List ℕ → Bool
-rising l = every (λ (i : ℕ). ltb (getD l i 0) (getD l (suc i) 0)) (length l - 1)
+rising l = every (risesAt l) (length l - 1)

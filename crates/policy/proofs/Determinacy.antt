@@ -1,45 +1,55 @@
--- Each entry point ensures that its outcome is the definition's: so two outcomes that its promise allows are equal.
+-- Two outcomes that a promise allows are equal: by one law for each entry point, and by its own crate's law for a promise that is no equation.
 use Prim.Native.Nat.{ℕ}
 use mathlib.Core.Path.{_≡_, sym, _∙_}
 use mathlib.Core.List.{List}
-use Rattle.pq_params.specs.Ranges.{rangesOf}
-use Rattle.pq_idx.specs.Results.{SearchOut}
-use Rattle.pq_idx.specs.Outcomes as Plain
+use Rattle.pq_params.specs.declared.Shape.{Shape}
+use Rattle.pq_params.specs.declared.CelledShape.{CelledShape}
 use Rattle.pq_params.specs.declared.PlainLengths.{PlainLengths}
-use Rattle.pq_params.specs.Lengths.{lengthsOf}
-use Rattle.bergrosk.specs.declared.RangeAnswer.{RangeAnswer}
-use Rattle.bergrosk.specs.Face.{TrainFace, trainFaced, SearchFace, searchFaced, rangeAnswerOf}
-use Rattle.ivfpq_idx.specs.Outcomes.{TrainIn, TrainOut, trainOutcome, CheckIn, CheckOut, checkOutcome, SearchIn, searchOutcome}
+use Rattle.pq_params.specs.declared.CelledLengths.{CelledLengths}
+use Rattle.pq_params.specs.Ranges.{rangesOf}
+use Rattle.pq_params.specs.Lengths.{plainLengths, celledLengths}
+use Rattle.cell_walk.specs.Results.{SearchOut}
+use Rattle.plain_train.specs.Outcome as PlainTrain
+use Rattle.plain_search.specs.Outcome as PlainSearch
+use Rattle.celled_check.specs.Check as CelledCheck
+use Rattle.celled_train.specs.Outcome as CelledTrain
+use Rattle.celled_search.specs.Outcome as CelledSearch
+pub use Rattle.lists.proofs.Determinacy.{part-determined}
+pub use Rattle.neighbor.proofs.Determinacy.{placed-once, inserted-once, merged-once, stored-once, last-stored-once}
+pub use Rattle.kmeans_split.proofs.Determinacy.{reached-determined, split-determined}
+pub use Rattle.cell_table.proofs.Determinacy.{tabled-once}
+pub use Rattle.cell_sums.proofs.Determinacy.{summed-once}
+pub use Rattle.policy.proofs.DeterminacyInner.{probed-determined, lists-determined, filled-determined}
 
 pub determined {ℓ κ} : {I : Type ℓ} {O : Type κ} (f : I → O) (i : I) (x y : O) → x ≡ f i → y ≡ f i → x ≡ y
 determined f i x y p q = p ∙ sym q
 
+-- ---- the range rule, and the lengths of the buffers
+
 pub ranges-determined : (d nsub : ℕ) (x y : List (List ℕ)) → x ≡ rangesOf d nsub → y ≡ rangesOf d nsub → x ≡ y
 ranges-determined d = determined (rangesOf d)
 
-pub plain-training-determined : (i : Plain.TrainIn) (x y : Plain.TrainOut) → x ≡ Plain.trainOutcome i → y ≡ Plain.trainOutcome i → x ≡ y
-plain-training-determined = determined Plain.trainOutcome
+pub plain-lengths-determined : (s : Shape) (n : ℕ) (x y : PlainLengths) → x ≡ plainLengths s n → y ≡ plainLengths s n → x ≡ y
+plain-lengths-determined s = determined (plainLengths s)
 
-pub plain-search-determined : (i : Plain.SearchIn) (x y : SearchOut) → x ≡ Plain.searchOutcome i → y ≡ Plain.searchOutcome i → x ≡ y
-plain-search-determined = determined Plain.searchOutcome
+pub celled-lengths-determined : (s : CelledShape) (n : ℕ) (x y : CelledLengths) → x ≡ celledLengths s n → y ≡ celledLengths s n → x ≡ y
+celled-lengths-determined s = determined (celledLengths s)
 
-pub celled-training-determined : (i : TrainIn) (x y : TrainOut) → x ≡ trainOutcome i → y ≡ trainOutcome i → x ≡ y
-celled-training-determined = determined trainOutcome
+-- ---- the plain index
 
-pub check-determined : (i : CheckIn) (x y : CheckOut) → x ≡ checkOutcome i → y ≡ checkOutcome i → x ≡ y
-check-determined = determined checkOutcome
+pub plain-training-determined : (i : PlainTrain.TrainIn) (x y : PlainTrain.TrainOut) → x ≡ PlainTrain.trainOutcome i → y ≡ PlainTrain.trainOutcome i → x ≡ y
+plain-training-determined = determined PlainTrain.trainOutcome
 
-pub celled-search-determined : (i : SearchIn) (x y : SearchOut) → x ≡ searchOutcome i → y ≡ searchOutcome i → x ≡ y
-celled-search-determined = determined searchOutcome
+pub plain-search-determined : (i : PlainSearch.SearchIn) (x y : SearchOut) → x ≡ PlainSearch.searchOutcome i → y ≡ PlainSearch.searchOutcome i → x ≡ y
+plain-search-determined = determined PlainSearch.searchOutcome
 
-pub faced-range-determined : (d nsub i : ℕ) (x y : RangeAnswer) → x ≡ rangeAnswerOf d nsub i → y ≡ rangeAnswerOf d nsub i → x ≡ y
-faced-range-determined d nsub = determined (rangeAnswerOf d nsub)
+-- ---- the celled index
 
-pub lengths-determined : (d nsub bits n : ℕ) (x y : PlainLengths) → x ≡ lengthsOf d nsub bits n → y ≡ lengthsOf d nsub bits n → x ≡ y
-lengths-determined d nsub bits = determined (lengthsOf d nsub bits)
+pub celled-training-determined : (i : CelledTrain.TrainIn) (x y : CelledTrain.TrainOut) → x ≡ CelledTrain.trainOutcome i → y ≡ CelledTrain.trainOutcome i → x ≡ y
+celled-training-determined = determined CelledTrain.trainOutcome
 
-pub faced-training-determined : (i : Plain.TrainIn) (x y : TrainFace) → x ≡ trainFaced i → y ≡ trainFaced i → x ≡ y
-faced-training-determined = determined trainFaced
+pub check-determined : (i : CelledCheck.CheckIn) (x y : CelledCheck.CheckOut) → x ≡ CelledCheck.checkOutcome i → y ≡ CelledCheck.checkOutcome i → x ≡ y
+check-determined = determined CelledCheck.checkOutcome
 
-pub faced-search-determined : (i : Plain.SearchIn) (x y : SearchFace) → x ≡ searchFaced i → y ≡ searchFaced i → x ≡ y
-faced-search-determined = determined searchFaced
+pub celled-search-determined : (i : CelledSearch.SearchIn) (x y : SearchOut) → x ≡ CelledSearch.searchOutcome i → y ≡ CelledSearch.searchOutcome i → x ≡ y
+celled-search-determined = determined CelledSearch.searchOutcome

@@ -13,13 +13,12 @@ use Rattle.metrics.specs.Distance.{zero32, sumTo, squared}
 use Rattle.neighbor.specs.Neighbor.{comesBefore, insertBy, insertAll}
 use Rattle.neighbor.proofs.Examples.{neighborTable, neighbor-examples}
 use Rattle.pq_params.specs.Ranges.{widthOf, beginOf}
+use Rattle.pq_params.specs.Refusals.{anyNotFinite, searchTests}
 use Rattle.pq_params.proofs.Examples.{rangesTable, ranges-agree}
 use Rattle.kmeans.proofs.Examples.{kmeansTable, kmeans-examples}
-use Rattle.pq_idx.specs.Answers.{searchedNumber, foundOf, scoredOf}
-use Rattle.pq_idx.specs.Refusals.{anyNotFinite}
-use Rattle.pq_idx.specs.Results.{SearchOut}
-use Rattle.pq_idx.specs.Tables.{cellFinite, candidates}
-use Rattle.pq_idx.specs.Outcomes.{SearchIn, searchRefusal, searchWorked, searchOutcome}
+use Rattle.cell_walk.specs.Candidates.{cellFinite, candidates}
+use Rattle.cell_walk.specs.Results.{SearchOut, lent}
+use Rattle.plain_search.specs.Outcome.{SearchIn, searchRefusal, searchWorked, searchOutcome}
 
 -- ---- a search in which rows 0 to 3 have the sums 4, 1, 4, 0.5
 
@@ -39,20 +38,18 @@ four = 0x4080_0000
 -- D 2, n_sub 2, sub_bits 2; the query (0, 0), and in each sub-space the centres 0, 0.5, 1, 2
 abbrev ask : List ℕ → ℕ → SearchIn
 ask mask k = record {
-  d = 2;
-  nsub = 2;
-  bits = 2;
+  shape = record { d = 2; nsub = 2; bits = 2 };
   n = 4;
   query = zero32 ∷ zero32 ∷ [];
   mask = mask;
   subs = map (ofBits binary32) (0 ∷ half ∷ one ∷ two ∷ 0 ∷ half ∷ one ∷ two ∷ []);
   codes = 3 ∷ 0 ∷ 2 ∷ 0 ∷ 0 ∷ 3 ∷ 1 ∷ 1 ∷ [];
-  lent = record { rows = replicate k 7; sums = replicate k nan; table = replicate 8 nan };
+  lent = lent (replicate k 7) (replicate k nan) (replicate 8 nan);
 }
 
 -- the answer's number, found and scored, then the row numbers and the sums
 abbrev told : SearchOut → List ℕ
-told o = searchedNumber (o .answer) ∷ foundOf (o .answer) ∷ scoredOf (o .answer) ∷ (o .rows ++ map (toBits binary32) (o .sums))
+told o = o .said .number ∷ o .said .found ∷ o .said .scored ∷ (o .rows ++ map (toBits binary32) (o .sums))
 
 -- all rows visible, and row 3 hidden
 abbrev pub searchTable : List Example
@@ -62,7 +59,7 @@ searchTable =
     ∷ []
 
 search-examples : agree searchTable ≡ true
-unfolding searchOutcome searchRefusal searchWorked cellFinite candidates anyNotFinite widthOf beginOf comesBefore insertBy insertAll squared sumTo tab every keep ofBits toBits add sub mul lt eq
+unfolding searchOutcome searchRefusal searchTests searchWorked cellFinite candidates anyNotFinite widthOf beginOf comesBefore insertBy insertAll squared sumTo tab every keep ofBits toBits add sub mul lt eq
 search-examples = refl
 
 -- ---- all of them

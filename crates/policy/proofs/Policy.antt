@@ -1,79 +1,43 @@
--- Demand 3: two searches that differ in nothing that is visible have one outcome.
-use Prim.Native.Nat.{ℕ, suc, _≤_, _<_}
+-- Demand 3: two searches of a celled index that differ in nothing that is visible have one outcome.
+use Prim.Native.Nat.{ℕ, _<_}
 use mathlib.Core.Path.{_≡_, refl, sym, _∙_, ap, ap₂, subst}
-use mathlib.Core.Bool.{Bool, true, cond, not, _&&_}
-use mathlib.Core.List.{List, []}
-use native.Mathlib.Nat.{zero-sub}
+use mathlib.Core.Bool.{Bool, true, cond, not}
+use mathlib.Core.List.{List}
 use native.Mathlib.Decide.{decLt}
 use native.Mathlib.Omega.{arith}
-use lib.ListN.{length, getD, List·getD-eq-default}
-use lib.Dec.{eqb}
-use lib.Ieee.{Float}
-use lib.Ieee.Scale.{finite}
-use Rattle.lists.specs.Lists.{part}
+use lib.ListN.{length}
 use Rattle.lists.specs.Tests.{keep}
-use Rattle.lists.proofs.Tables.{map-ext}
 use Rattle.lists.proofs.Joins.{join-ext}
-use Rattle.lists.proofs.Rising.{Rises, rises-of}
 use Rattle.lists.proofs.Tests.{and-both, every-of, every-ext}
-use Rattle.metrics.proofs.Laws.{sum-ext}
 use Rattle.neighbor.specs.declared.Candidate.{Candidate}
-use Rattle.pq_idx.specs.Results.{Lent, blank, answered}
-use Rattle.pq_idx.specs.Tables.{visible, visibleRows, codesBelow, entryAt, tableFinite, sumAt, cellFinite, candidates}
-use Rattle.ivfpq_idx.specs.Lists.{startOf, listSound}
-use Rattle.ivfpq_idx.specs.Check.{Index, indexSound}
-use Rattle.ivfpq_idx.specs.Search.{Asked, coarseFinite, probed, probedAt, cellAt, cellSound, probedSound, probedCell, probedFinite, allCandidates}
-use Rattle.ivfpq_idx.specs.Outcomes.{SearchIn, searchRefusal, searchWorked, searchOutcome}
-use Rattle.policy.specs.Check.{Passes, StandsIn, listAt, Acceptable}
-use Rattle.policy.specs.Policy.{InSight, SameCells, SameCodes, AlikeInSight}
+use Rattle.pq_params.specs.Codes.{codesBelow}
+use Rattle.cell_codes.specs.Codes.{visible, visibleRows}
+use Rattle.cell_walk.specs.Candidates.{cellFinite, candidates}
+use Rattle.cell_walk.specs.Results.{Lent, blank, answered}
+use Rattle.celled_lists.specs.Index.{Index}
+use Rattle.probed_cells.specs.Search.{Asked, coarseFinite, probed, probedAt, cellAt, cellSound, probedSound, probedCell, probedFinite, allCandidates}
+use Rattle.celled_search.specs.Outcome.{SearchIn, searchIn, searchRefusal, searchWorked, searchOutcome}
+use Rattle.policy.specs.Check.{Passes, listAt}
+use Rattle.policy.specs.Sight.{InSight}
+use Rattle.policy.specs.Policy.{SameCells, SameCodes, AlikeInSight}
 use Rattle.policy.proofs.Standing.{keep-from, keep-same}
-use Rattle.policy.proofs.Check.{list-sound, list-below, list-rises, starts-sound, lists-sound, codes-sound, long, check-exact, accepts-exact}
+use Rattle.policy.proofs.Check.{starts-sound, codes-sound, long}
+use Rattle.policy.proofs.Passing.{checked, sound, no-cell, list-of, list-rising, row-below}
+use Rattle.policy.proofs.Cells.{shownAt, same-finite, same-candidates}
 
--- ---- an index that passes the whole check
-
-module _ (x : Index) (passes : Passes x) where
-  pub checked : Acceptable (record { index = x; work = passes .work })
-  checked = accepts-exact (record { index = x; work = passes .work }) .0 (passes .accepted)
-
-  sound : indexSound x ≡ true
-  sound = check-exact x .1 (checked .order)
-
-  -- a number past the last cell has no rows
-  pub no-cell : (c : ℕ) → x .cells ≤ c → listAt x c ≡ []
-  unfolding part
-  no-cell c h =
-      let e : startOf (x .starts) (suc c) ≡ 0 = List·getD-eq-default (x .starts) 0 (omega (arith, checked .lengths .starts)) in
-      rw (e, zero-sub)
-
-  -- so each number's list is sound
-  pub list-of : (c : ℕ) → listSound (x .n) (listAt x c) ≡ true
-  list-of c = elim (decLt c (x .cells)) [
-    | yes h ↦ lists-sound x sound c h
-    | no h ↦ rw (no-cell c (omega arith)) (list-sound (x .n) [] (λ i k. absurd (omega arith)) (λ i k. absurd (omega arith)))
-  ]
-
-  pub list-rising : (c : ℕ) → Rises 0 (listAt x c)
-  list-rising c = rises-of (listAt x c) 0 (λ h. omega arith) (list-rises (x .n) (listAt x c) (list-of c))
-
-  pub row-below : (c m : ℕ) → StandsIn (listAt x c) m → m < x .n
-  row-below c m s = rw (s .1 .held) at (list-below (x .n) (listAt x c) (list-of c) (s .0) (s .1 .within))
-
--- ---- a search of such an index
-
-abbrev shownRow : Asked → ℕ → ℕ → ℕ
-shownRow a c i = getD (visibleRows (cellAt a c)) i 0
+-- ---- a search of an index that passes the whole check
 
 module _ (a : Asked) (passes : Passes (a .index)) where
-  in-sight : (c i : ℕ) → i < length (visibleRows (cellAt a c)) → InSight a (shownRow a c i)
+  in-sight : (c i : ℕ) → i < length (visibleRows (cellAt a c)) → InSight (a .index .n) (a .mask) (shownAt (cellAt a c) i)
   in-sight c i h =
-      let s = keep-from (visible (a .mask)) (listAt (a .index) c) (shownRow a c i) (i, record { within = h; held = refl }) in
-      record { there = row-below (a .index) passes c (shownRow a c i) (s .0); shown = s .1 }
+      let s = keep-from (visible (a .mask)) (listAt (a .index) c) (shownAt (cellAt a c) i) (i, record { within = h; held = refl }) in
+      record { there = row-below (a .index) passes c (shownAt (cellAt a c) i) (s .0); shown = s .1 }
 
   cell-sound : (c : ℕ) → cellSound a c ≡ true
   cell-sound c =
       and-both (list-of (a .index) passes c)
-      (every-of (λ (i : ℕ). codesBelow (a .index .codes) (a .index .nsub) (a .index .bits) (shownRow a c i)) (length (visibleRows (cellAt a c)))
-      (λ i h. codes-sound (a .index) (sound (a .index) passes) (shownRow a c i) (in-sight c i h .there)))
+      (every-of (λ (i : ℕ). codesBelow (a .index .codes) (a .index .shape .plain) (shownAt (cellAt a c) i)) (length (visibleRows (cellAt a c)))
+      (λ i h. codes-sound (a .index) (sound (a .index) passes) (shownAt (cellAt a c) i) (in-sight c i h .there)))
 
   probed-sound : probedSound a ≡ true
   unfolding probedSound
@@ -91,11 +55,7 @@ module _ (a : Asked) (passes : Passes (a .index)) where
 abbrev pub relisted : Asked → Index → Asked
 relisted a x = record {
   index = record {
-    d = a .index .d;
-    nsub = a .index .nsub;
-    bits = a .index .bits;
-    cells = a .index .cells;
-    probes = a .index .probes;
+    shape = a .index .shape;
     n = a .index .n;
     coarse = a .index .coarse;
     starts = x .starts;
@@ -107,43 +67,33 @@ relisted a x = record {
   mask = a .mask;
 }
 
-module _ (a : Asked) (x : Index) (first : Passes (a .index)) (second : Passes (relisted a x .index)) (cells : SameCells a x) (codes : SameCodes a x) where
+module _ (a : Asked) (x : Index) (first : Passes (a .index)) (second : Passes (relisted a x .index)) (cells : SameCells a x)
+    (codes : SameCodes a x) where
   same-rows : (c : ℕ) → visibleRows (cellAt a c) ≡ visibleRows (cellAt (relisted a x) c)
-  same-rows c = elim (decLt c (a .index .cells)) [
+  same-rows c = elim (decLt c (a .index .shape .cells)) [
     | yes h ↦ keep-same (visible (a .mask)) (listAt (a .index) c) (listAt x c) (list-rising (a .index) first c) (list-rising (relisted a x .index) second c)
         (λ m e s. cells m c (record { there = row-below (a .index) first c m s; shown = e }) h .0 s)
         (λ m e s. cells m c (record { there = row-below (relisted a x .index) second c m s; shown = e }) h .1 s)
     | no h ↦ ap (keep (visible (a .mask))) (no-cell (a .index) first c (omega arith) ∙ sym (no-cell (relisted a x .index) second c (omega arith)))
   ]
 
-  same-sum : (c i : ℕ) → i < length (visibleRows (cellAt a c)) → sumAt (cellAt a c) (shownRow a c i) ≡ sumAt (cellAt (relisted a x) c) (shownRow a c i)
-  same-sum c i h = sum-ext _ _ (a .index .nsub) (λ s k. ap (entryAt (cellAt a c) s) (codes (shownRow a c i) s (in-sight a first c i h) k))
+  cell-finite : (c : ℕ) → cellFinite (cellAt a c) ≡ cellFinite (cellAt (relisted a x) c)
+  cell-finite c = same-finite (cellAt a c) (x .codes) (listAt x c) (same-rows c) (λ i s h. codes (shownAt (cellAt a c) i) s (in-sight a first c i h))
 
-  same-finite : (c : ℕ) → cellFinite (cellAt a c) ≡ cellFinite (cellAt (relisted a x) c)
-  unfolding cellFinite
-  same-finite c =
-      rw (← same-rows c)
-      (ap (λ (t : Bool). cond (eqb (length (visibleRows (cellAt a c))) 0) true (tableFinite (cellAt a c) && t))
-      (every-ext _ _ (length (visibleRows (cellAt a c))) (λ i h. ap finite (same-sum c i h))))
-
-  same-candidates : (c : ℕ) → candidates (cellAt a c) ≡ candidates (cellAt (relisted a x) c)
-  unfolding candidates
-  same-candidates c =
-      rw (← same-rows c)
-      (map-ext 0 _ _ (visibleRows (cellAt a c)) (λ i h. ap (λ (t : Float). record { sum = t; row = shownRow a c i }) (same-sum c i h)))
+  cell-candidates : (c : ℕ) → candidates (cellAt a c) ≡ candidates (cellAt (relisted a x) c)
+  cell-candidates c = same-candidates (cellAt a c) (x .codes) (listAt x c) (same-rows c) (λ i s h. codes (shownAt (cellAt a c) i) s (in-sight a first c i h))
 
   same-worked : (l : Lent) → searchWorked a l ≡ searchWorked (relisted a x) l
-  unfolding coarseFinite probed probedFinite allCandidates
+  unfolding probedFinite allCandidates
   same-worked l =
       undamaged a first l
       ∙ ap₂ (λ (f : Bool) (cs : List Candidate). cond (not (coarseFinite a)) (blank l 11) (cond (not f) (blank l 11) (answered l cs)))
-      (every-ext (λ (p : ℕ). cellFinite (probedCell a p)) _ (length (probed a)) (λ p h. same-finite (probedAt a p)))
-      (join-ext (λ (p : ℕ). candidates (probedCell a p)) _ (length (probed a)) (λ p h. same-candidates (probedAt a p)))
+      (every-ext (λ (p : ℕ). cellFinite (probedCell a p)) _ (length (probed a)) (λ p h. cell-finite (probedAt a p)))
+      (join-ext (λ (p : ℕ). candidates (probedCell a p)) _ (length (probed a)) (λ p h. cell-candidates (probedAt a p)))
       ∙ sym (undamaged (relisted a x) second l)
 
   -- the lists and codes of both are of their lengths, and all else that is tested is equal
-  same-refusal : (l : Lent) → searchRefusal (record { asked = a; lent = l }) ≡ searchRefusal (record { asked = relisted a x; lent = l })
-  unfolding searchRefusal
+  same-refusal : (l : Lent) → searchRefusal (searchIn a l) ≡ searchRefusal (searchIn (relisted a x) l)
   same-refusal l =
       let p = checked (a .index) first .lengths in
       let q = checked (relisted a x .index) second .lengths in
@@ -156,20 +106,16 @@ module _ (a : Asked) (x : Index) (first : Passes (a .index)) (second : Passes (r
         long (x .codes) _ (q .codes),
       )
 
-  same-outcome : (l : Lent) → searchOutcome (record { asked = a; lent = l }) ≡ searchOutcome (record { asked = relisted a x; lent = l })
+  same-outcome : (l : Lent) → searchOutcome (searchIn a l) ≡ searchOutcome (searchIn (relisted a x) l)
   unfolding searchOutcome
   same-outcome l = rw (same-refusal l, same-worked l)
 
 -- what is equal in both is all of b but its lists and codes
-only-lists : (a b : SearchIn) → AlikeInSight a b → record { asked = relisted (a .asked) (b .asked .index); lent = a .lent } ≡ b
+only-lists : (a b : SearchIn) → AlikeInSight a b → searchIn (relisted (a .asked) (b .asked .index)) (a .lent) ≡ b
 only-lists a b e i = record {
   asked = record {
     index = record {
-      d = e .d i;
-      nsub = e .nsub i;
-      bits = e .bits i;
-      cells = e .cells i;
-      probes = e .probes i;
+      shape = record { plain = record { d = e .d i; nsub = e .nsub i; bits = e .bits i }; cells = e .cells i; probes = e .probes i };
       n = e .n i;
       coarse = e .coarse i;
       starts = b .asked .index .starts;

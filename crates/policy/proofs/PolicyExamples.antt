@@ -10,16 +10,18 @@ use Rattle.lists.specs.Lists.{part, tab, join}
 use Rattle.lists.specs.Tests.{every, count, keep, rising}
 use Rattle.metrics.specs.Distance.{zero32, sumTo, squared}
 use Rattle.neighbor.specs.Neighbor.{comesBefore, insertBy, insertAll, blankRow}
+use Rattle.answers.specs.declared.Searched.the-variants.{Done, Refused}
+use Rattle.answers.specs.declared.Checked.the-variants.{Refused as CheckRefused}
 use Rattle.pq_params.specs.Ranges.{widthOf, beginOf}
-use Rattle.pq_idx.specs.declared.Searched.the-variants.{Done, Refused}
-use Rattle.pq_idx.specs.Refusals.{anyNotFinite}
-use Rattle.pq_idx.specs.Results.{SearchOut}
-use Rattle.pq_idx.specs.Tables.{cellFinite, candidates}
-use Rattle.ivfpq_idx.specs.declared.Checked.the-variants.{Refused as CheckRefused}
-use Rattle.ivfpq_idx.specs.Lists.{startsSound, listSound}
-use Rattle.ivfpq_idx.specs.Check.{Index, indexSound}
-use Rattle.ivfpq_idx.specs.Search.{coarseFinite, probed, probedSound, probedFinite, allCandidates}
-use Rattle.ivfpq_idx.specs.Outcomes.{SearchIn, CheckIn, CheckOut, checkRefusal, checkOutcome, searchRefusal, searchWorked, searchOutcome}
+use Rattle.pq_params.specs.Refusals.{anyNotFinite, searchTests, checkTests}
+use Rattle.cell_walk.specs.Candidates.{cellFinite, candidates}
+use Rattle.cell_walk.specs.Results.{SearchOut, lent, searchOut}
+use Rattle.celled_lists.specs.Index.{Index}
+use Rattle.celled_lists.specs.Lists.{startsSound, listSound}
+use Rattle.celled_check.specs.Check.{CheckIn, CheckOut, checkIn, indexSound, checkOutcome}
+use Rattle.celled_probe.specs.Probe.{finiteCells, nearestCells}
+use Rattle.probed_cells.specs.Search.{probedSound, probedFinite, allCandidates}
+use Rattle.celled_search.specs.Outcome.{SearchIn, searchIn, searchWorked, searchOutcome}
 use Rattle.policy.specs.Check.{Passes, listAt}
 use Rattle.policy.specs.Policy.{SameCells, SameCodes, AlikeInSight}
 use Rattle.policy.proofs.Check.{stands-alike}
@@ -27,7 +29,7 @@ use Rattle.policy.proofs.Policy.{relisted, row-policy}
 
 -- two searches of which the one has the other's parameters, centres, query, mask and buffers
 alike-of : (a : SearchIn) (x : Index) → Passes (a .asked .index) → Passes (relisted (a .asked) x .index) → SameCells (a .asked) x → SameCodes (a .asked) x
-    → AlikeInSight a (record { asked = relisted (a .asked) x; lent = a .lent })
+    → AlikeInSight a (searchIn (relisted (a .asked) x) (a .lent))
 alike-of a x f g cells codes = record {
   first = f;
   second = g;
@@ -48,11 +50,11 @@ alike-of a x f g cells codes = record {
 
 -- what a search and a whole check compute by
 searches : SearchIn → SearchOut
-unfolding searchOutcome searchRefusal searchWorked startsSound listSound coarseFinite probed probedSound probedFinite allCandidates cellFinite candidates part tab join every rising keep squared sumTo comesBefore insertBy insertAll widthOf beginOf anyNotFinite ofBits add sub mul lt eq
+unfolding searchOutcome searchTests searchWorked startsSound listSound finiteCells nearestCells probedSound probedFinite allCandidates cellFinite candidates part tab join every rising keep squared sumTo comesBefore insertBy insertAll widthOf beginOf anyNotFinite ofBits add sub mul lt eq
 searches i = searchOutcome i
 
 checks : CheckIn → CheckOut
-unfolding checkOutcome checkRefusal indexSound startsSound listSound part every rising count tab beginOf widthOf
+unfolding checkOutcome checkTests indexSound startsSound listSound part every rising count tab beginOf widthOf
 checks i = checkOutcome i
 
 -- two equal outcomes have one row in the first place
@@ -76,11 +78,7 @@ sixteen = ofBits binary32 0x4180_0000
 -- D 1, n_sub 1, sub_bits 1, two cells with the centres 0 and 4, both probed, three rows; the sub-centres of both cells are -1 and 1
 abbrev indexOf : List ℕ → List ℕ → List ℕ → Index
 indexOf starts members codes = record {
-  d = 1;
-  nsub = 1;
-  bits = 1;
-  cells = 2;
-  probes = 2;
+  shape = record { plain = record { d = 1; nsub = 1; bits = 1 }; cells = 2; probes = 2 };
   n = 3;
   coarse = zero32 ∷ four ∷ [];
   starts = starts;
@@ -93,7 +91,7 @@ indexOf starts members codes = record {
 abbrev ask : List ℕ → Index → SearchIn
 ask mask x = record {
   asked = record { index = x; query = one ∷ []; mask = mask };
-  lent = record { rows = 7 ∷ 7 ∷ 7 ∷ []; sums = one ∷ one ∷ one ∷ []; table = one ∷ one ∷ [] };
+  lent = lent (7 ∷ 7 ∷ 7 ∷ []) (one ∷ one ∷ one ∷ []) (one ∷ one ∷ []);
 }
 
 -- row 1 stands in cell 0 with code 0, or in cell 1 with code 1
@@ -138,7 +136,7 @@ near-far-alike = alike-of (ask hides1 near) far near-passes far-passes near-far-
 
 -- rows 2 and 0 are found, the third place is blank
 abbrev found20 : SearchOut
-found20 = record { answer = Done 2 2; rows = 2 ∷ 0 ∷ blankRow ∷ []; sums = four ∷ sixteen ∷ zero32 ∷ []; table = zero32 ∷ zero32 ∷ [] }
+found20 = searchOut (Done 2 2) (2 ∷ 0 ∷ blankRow ∷ []) (four ∷ sixteen ∷ zero32 ∷ []) (zero32 ∷ zero32 ∷ [])
 
 pub near-found : searchOutcome (ask hides1 near) ≡ found20
 unfolding searches
@@ -200,11 +198,7 @@ big = ofBits binary32 0x5f40_0000
 -- D 2, n_sub 2, sub_bits 1, one cell with the centre (0, 0), two rows; in each sub-space the centres 0 and big
 abbrev pairOf : List ℕ → Index
 pairOf codes = record {
-  d = 2;
-  nsub = 2;
-  bits = 1;
-  cells = 1;
-  probes = 1;
+  shape = record { plain = record { d = 2; nsub = 2; bits = 1 }; cells = 1; probes = 1 };
   n = 2;
   coarse = zero32 ∷ zero32 ∷ [];
   starts = 0 ∷ 2 ∷ [];
@@ -217,7 +211,7 @@ pairOf codes = record {
 abbrev askPair : List ℕ → Index → SearchIn
 askPair mask x = record {
   asked = record { index = x; query = zero32 ∷ zero32 ∷ []; mask = mask };
-  lent = record { rows = 7 ∷ []; sums = one ∷ []; table = one ∷ one ∷ one ∷ one ∷ [] };
+  lent = lent (7 ∷ []) (one ∷ []) (one ∷ one ∷ one ∷ one ∷ []);
 }
 
 -- row 1 at (big, big), or at (0, 0)
@@ -249,7 +243,7 @@ loud-quiet-alike = alike-of (askPair (1 ∷ 0 ∷ []) loud) quiet loud-passes qu
 
 -- hidden, it refuses nothing: row 0 is found in both
 abbrev found0 : SearchOut
-found0 = record { answer = Done 1 1; rows = 0 ∷ []; sums = zero32 ∷ []; table = zero32 ∷ zero32 ∷ zero32 ∷ zero32 ∷ [] }
+found0 = searchOut (Done 1 1) (0 ∷ []) (zero32 ∷ []) (zero32 ∷ zero32 ∷ zero32 ∷ zero32 ∷ [])
 
 pub loud-found : searchOutcome (askPair (1 ∷ 0 ∷ []) loud) ≡ found0
 unfolding searches
@@ -272,7 +266,7 @@ quiet-shown = refl
 abbrev doubled : Index
 doubled = indexOf (0 ∷ 2 ∷ 3 ∷ []) (0 ∷ 1 ∷ 0 ∷ []) (1 ∷ 0 ∷ 0 ∷ [])
 
-pub doubled-refused : checkOutcome (record { index = doubled; work = replicate 1027 0 }) .answer ≡ CheckRefused 10
+pub doubled-refused : checkOutcome (checkIn doubled (replicate 1027 0)) .answer ≡ CheckRefused 10
 unfolding checks
 doubled-refused = refl
 

@@ -10,22 +10,28 @@ use lib.Seq.{getD-take}
 use lib.Dec.{eqb}
 use lib.Ieee.{Float}
 use Rattle.lists.specs.Lists.{tab, fill, join}
-use Rattle.lists.proofs.Tables.{last-or, map-tab, length-tab, getD-tab}
+use Rattle.lists.proofs.Tables.{map-tab, length-tab, getD-tab}
 use Rattle.lists.proofs.TakeDrop.{map-take}
 use Rattle.lists.proofs.Parts.{getD-part, within-part}
 use Rattle.lists.proofs.Rising.{Rises, rises-keep}
 use Rattle.neighbor.specs.declared.Candidate.{Candidate}
 use Rattle.neighbor.specs.Neighbor.{comesBefore, insertBy, insertAll, ordered, firstOf, rowOf, blankRow}
-use Rattle.pq_idx.specs.Tables.{visible, visibleRows, sumAt, candidates}
-use Rattle.pq_idx.specs.Results.{Lent, askedOf, unchanged, blank, answered}
-use Rattle.ivfpq_idx.specs.Lists.{startOf}
-use Rattle.ivfpq_idx.specs.Check.{Index}
-use Rattle.ivfpq_idx.specs.Search.{Asked, cellAt, probed, probedAt, probedCell, cellCandidate, coarseFinite, probedFinite, allCandidates}
-use Rattle.ivfpq_idx.specs.Outcomes.{SearchIn, searchRefusal, searchOutcome}
+use Rattle.cell_codes.specs.Codes.{visible, visibleRows}
+use Rattle.cell_sums.specs.Sums.{sumAt}
+use Rattle.cell_walk.specs.Candidates.{candidates}
+use Rattle.cell_walk.specs.Results.{Lent, askedOf, unchanged, blank, answered}
+use Rattle.celled_lists.specs.Index.{Index}
+use Rattle.celled_lists.specs.Lists.{startOf}
+use Rattle.celled_lists.proofs.Starts.{starts-rise}
+use Rattle.celled_probe.specs.Probe.{cellCandidate, nearestCells}
+use Rattle.probed_cells.specs.Search.{Asked, cellAt, coarseDistance, probed, probedAt, probedCell, coarseFinite, probedFinite, allCandidates}
+use Rattle.celled_search.specs.Outcome.{SearchIn, searchRefusal, searchOutcome}
 use Rattle.policy.specs.Check.{Passes, HoldsAt, StandsIn, listAt}
-use Rattle.policy.specs.Policy.{NoRowTwice}
+use Rattle.policy.specs.Results.{NoRowTwice}
 use Rattle.policy.proofs.Standing.{in-head, in-tail, in-cases, not-in-nil, rises-from, keep-from}
-use Rattle.policy.proofs.Policy.{checked, no-cell, list-rising, row-below, undamaged}
+use Rattle.policy.proofs.Check.{starts-sound}
+use Rattle.policy.proofs.Passing.{checked, sound, no-cell, list-rising, row-below}
+use Rattle.policy.proofs.Policy.{undamaged}
 
 -- ---- lists in which no row stands twice
 
@@ -131,14 +137,11 @@ rows-back f (x ∷ l) = ap (λ (t : List ℕ). x ∷ t) (rows-back f l)
 -- ---- a row stands in one cell
 
 module _ (x : Index) (passes : Passes x) where
-  starts-rise : (c d : ℕ) → c ≤ d → d ≤ x .cells → startOf (x .starts) c ≤ startOf (x .starts) d
-  starts-rise c zero h k = let e : c ≡ 0 = omega arith in rw e (omega arith)
-  starts-rise c (suc d) h k =
-      last-or c (suc d) (omega arith) (λ e. rw e (omega arith))
-      (λ l. omega (arith, starts-rise c d (omega arith) (omega arith), checked x passes .order .never-fall d (omega arith)))
+  rise : (c d : ℕ) → c ≤ d → d ≤ x .shape .cells → startOf (x .starts) c ≤ startOf (x .starts) d
+  rise = starts-rise (x .starts) (x .shape .cells) (x .n) (starts-sound x (sound x passes))
 
-  is-cell : (c m : ℕ) → StandsIn (listAt x c) m → c < x .cells
-  is-cell c m s = elim (decLt c (x .cells)) [
+  is-cell : (c m : ℕ) → StandsIn (listAt x c) m → c < x .shape .cells
+  is-cell c m s = elim (decLt c (x .shape .cells)) [
     | yes h ↦ h
     | no h ↦ absurd (not-in-nil (rw (no-cell x passes c (omega arith)) at (s .1)))
   ]
@@ -158,9 +161,9 @@ module _ (x : Index) (passes : Passes x) where
       let q = place-of d m t in
       let e = checked x passes .order .once m (row-below x passes c m s) (p .0) (q .0) (p .3) (q .3) in
       elim (decLt c d) [
-        | yes h ↦ absurd (omega (arith, starts-rise (suc c) d h (omega (arith, is-cell d m t))))
+        | yes h ↦ absurd (omega (arith, rise (suc c) d h (omega (arith, is-cell d m t))))
         | no h ↦ elim (decLt d c) [
-          | yes k ↦ absurd (omega (arith, starts-rise (suc d) c k (omega (arith, is-cell c m s))))
+          | yes k ↦ absurd (omega (arith, rise (suc d) c k (omega (arith, is-cell c m s))))
           | no k ↦ omega arith
         ]
       ]
@@ -177,11 +180,14 @@ tab-distinct n = places-distinct (tab (λ (c : ℕ). c) n) go
         sym (getD-tab (λ (c : ℕ). c) n p 0 (omega arith)) ∙ e ∙ getD-tab (λ (c : ℕ). c) n q 0 (omega arith)
 
 -- no cell is probed twice
+nearest-distinct : (f : ℕ → Float) (cells probes : ℕ) → Distinct (nearestCells f cells probes)
+unfolding nearestCells
+nearest-distinct f cells probes =
+    let all : Distinct (rowsOf (tab (cellCandidate f) cells)) = rw (map-tab rowOf (cellCandidate f) cells) (tab-distinct cells) in
+    distinct-take probes _ (distinct-ordered (tab (cellCandidate f) cells) all)
+
 probed-distinct : (a : Asked) → Distinct (probed a)
-unfolding probed
-probed-distinct a =
-    let cells : Distinct (rowsOf (tab (cellCandidate a) (a .index .cells))) = rw (map-tab rowOf (cellCandidate a) (a .index .cells)) (tab-distinct (a .index .cells)) in
-    distinct-take (a .index .probes) _ (distinct-ordered (tab (cellCandidate a) (a .index .cells)) cells)
+probed-distinct a = nearest-distinct (coarseDistance a) (a .index .shape .cells) (a .index .shape .probes)
 
 module _ (a : Asked) (passes : Passes (a .index)) where
   candidate-rows : (c : ℕ) → rowsOf (candidates (cellAt a c)) ≡ visibleRows (cellAt a c)

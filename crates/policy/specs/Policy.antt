@@ -1,30 +1,21 @@
--- Search by what is visible: two searches that differ in nothing visible (demand 3), and answers in which no row comes twice.
+-- Demand 3 for the celled index: two searches that differ in nothing visible.
 use Prim.Native.Nat.{ℕ, _<_}
 use mathlib.Core.Path.{_≡_}
 use mathlib.Core.Logic.{_↔_}
-use mathlib.Core.Bool.{true}
-use lib.ListN.{getD}
-use Rattle.pq_idx.specs.Answers.{foundOf}
-use Rattle.pq_idx.specs.Results.{SearchOut}
-use Rattle.pq_idx.specs.Tables.{visible, codeAt}
-use Rattle.ivfpq_idx.specs.Check.{Index}
-use Rattle.ivfpq_idx.specs.Search.{Asked}
-use Rattle.ivfpq_idx.specs.Outcomes.{SearchIn}
+use Rattle.celled_lists.specs.Index.{Index}
+use Rattle.probed_cells.specs.Search.{Asked}
+use Rattle.celled_search.specs.Outcome.{SearchIn}
 use Rattle.policy.specs.Check.{Passes, StandsIn, listAt}
-
--- row m is visible
-pub record InSight (a : Asked) (m : ℕ) : Type 0 where
-  pub there : m < a .index .n
-  pub shown : visible (a .mask) m ≡ true
+use Rattle.policy.specs.Sight.{InSight, CodesAlike}
 
 -- a visible row stands in a cell of the one index exactly if in that cell of the other
 abbrev pub SameCells : Asked → Index → Type 0
-SameCells a x = (m c : ℕ) → InSight a m → c < a .index .cells → StandsIn (listAt (a .index) c) m ↔ StandsIn (listAt x c) m
+SameCells a x =
+    (m c : ℕ) → InSight (a .index .n) (a .mask) m → c < a .index .shape .cells → StandsIn (listAt (a .index) c) m ↔ StandsIn (listAt x c) m
 
 -- and has the same codes in both
 abbrev pub SameCodes : Asked → Index → Type 0
-SameCodes a x =
-    (m s : ℕ) → InSight a m → s < a .index .nsub → codeAt (a .index .codes) (a .index .nsub) m s ≡ codeAt (x .codes) (a .index .nsub) m s
+SameCodes a x = CodesAlike (a .index .n) (a .mask) (a .index .shape .plain .nsub) (a .index .codes) (x .codes)
 
 -- Hidden rows may have any cells and any codes that pass the whole check.
 pub record AlikeInSight (a b : SearchIn) : Type 0 where
@@ -32,11 +23,11 @@ pub record AlikeInSight (a b : SearchIn) : Type 0 where
   pub first : Passes (a .asked .index)
   pub second : Passes (b .asked .index)
   -- equal parameters, row count and centres
-  pub d : a .asked .index .d ≡ b .asked .index .d
-  pub nsub : a .asked .index .nsub ≡ b .asked .index .nsub
-  pub bits : a .asked .index .bits ≡ b .asked .index .bits
-  pub cells : a .asked .index .cells ≡ b .asked .index .cells
-  pub probes : a .asked .index .probes ≡ b .asked .index .probes
+  pub d : a .asked .index .shape .plain .d ≡ b .asked .index .shape .plain .d
+  pub nsub : a .asked .index .shape .plain .nsub ≡ b .asked .index .shape .plain .nsub
+  pub bits : a .asked .index .shape .plain .bits ≡ b .asked .index .shape .plain .bits
+  pub cells : a .asked .index .shape .cells ≡ b .asked .index .shape .cells
+  pub probes : a .asked .index .shape .probes ≡ b .asked .index .shape .probes
   pub n : a .asked .index .n ≡ b .asked .index .n
   pub coarse : a .asked .index .coarse ≡ b .asked .index .coarse
   pub subs : a .asked .index .subs ≡ b .asked .index .subs
@@ -47,7 +38,3 @@ pub record AlikeInSight (a b : SearchIn) : Type 0 where
   -- visible rows have equal cells and codes
   pub same-cells : SameCells (a .asked) (b .asked .index)
   pub same-codes : SameCodes (a .asked) (b .asked .index)
-
--- no row comes twice in the places that are filled
-abbrev pub NoRowTwice : SearchOut → Type 0
-NoRowTwice o = (p q : ℕ) → p < foundOf (o .answer) → q < foundOf (o .answer) → getD (o .rows) p 0 ≡ getD (o .rows) q 0 → p ≡ q

@@ -4,3 +4,4 @@ pub mod Defaults
 pub mod RangesRight
 pub mod Lengths
 pub mod Refusals
+pub mod Codes

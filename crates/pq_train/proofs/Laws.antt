@@ -10,31 +10,34 @@ use native.Mathlib.Nat.{add-assoc, le-of-lt, mul-add, mul-zero, mul-le-mul-left,
 use native.Mathlib.Decide.{decLe}
 use native.Mathlib.Numerals.{add-one}
 use native.Mathlib.Omega.{arith}
-use lib.ListN.{length, getD}
+use lib.ListN.{length}
 use lib.Ieee.{Float, nan}
-use Rattle.lists.specs.Lists.{part, putPart, fill, Part}
+use Rattle.lists.specs.Lists.{part, putPart, fill, Part, memberOf}
 use Rattle.lists.proofs.Parts.{getD-part, length-part}
 use Rattle.lists.proofs.Joins.{Begins, part-join}
-use Rattle.metrics.specs.Distance.{valueOf, valueIn, zero32}
+use Rattle.metrics.specs.Distance.{valueIn, zero32}
 use Rattle.pq_params.specs.Bounds.{badPlain, centersOf}
 use Rattle.pq_params.specs.Ranges.{beginOf, widthOf, coveredOf}
 use Rattle.pq_params.proofs.Bounds.{plain-bounds, range-bounds, centers-some, centers-most}
 use Rattle.pq_params.proofs.RangeRule.{begin-zero, begin-next, begin-mono, begin-within, width-most}
-use Rattle.kmeans.specs.declared.Clustered.{Clustered}
-use Rattle.kmeans.specs.declared.Clustered.the-variants.{Done as ClusteredDone, OutOfDraws as ClusteredOut, NotFinite as ClusteredBroken}
-use Rattle.kmeans.specs.Frame.{memberOf, valueAt, taskOf as frameTask, Framed}
-use Rattle.kmeans.specs.Kmeans.{Task, Run, train, chosen}
-use Rattle.kmeans.proofs.Laws.{NotDone, chosen-ext}
-use Rattle.kmeans.proofs.Splitting.{train-sized}
+use Rattle.answers.specs.declared.Clustered.{Clustered}
+use Rattle.answers.specs.declared.Clustered.the-variants.{Done as ClusteredDone, OutOfDraws as ClusteredOut, NotFinite as ClusteredBroken}
+use Rattle.kmeans_assign.specs.Task.{valueAt, taskOf as frameTask}
+use Rattle.kmeans_split.specs.Run.{Run}
+use Rattle.kmeans.specs.Kmeans.{train}
+use Rattle.kmeans_assign.specs.Assign.{chosen}
+use Rattle.kmeans_split.proofs.Runs.{NotDone}
+use Rattle.kmeans_assign.proofs.Choosing.{chosen-ext}
+use Rattle.kmeans.proofs.Reached.{train-sized}
 use Rattle.pq_train.specs.declared.RowList.{RowList}
-use Rattle.pq_train.specs.declared.Stage.{Stage}
-use Rattle.pq_train.specs.declared.Stage.the-variants.{Sub}
-use Rattle.pq_train.specs.declared.Trained.{Trained}
-use Rattle.pq_train.specs.declared.Trained.the-variants.{Done, Refused, OutOfDraws, NotFinite}
-use Rattle.pq_train.proofs.Trained.{the-type}
-use Rattle.pq_train.specs.Answers.{staged, goOn, drawsUsed, ended}
-use Rattle.pq_train.specs.Training.{Listed, valueOnRange, taskOf, reached, centersAt, answerOf, subCenters, codeOf}
-use Rattle.pq_train.specs.Inner.{valuesOf, listedOf, frameOf, Listing, FramedIn, RanAt, Centered, ListOut, listOutcome, Coding, codeBy}
+use Rattle.answers.specs.declared.Stage.{Stage}
+use Rattle.answers.specs.declared.Stage.the-variants.{Sub}
+use Rattle.answers.specs.declared.Trained.{Trained}
+use Rattle.answers.specs.declared.Trained.the-variants.{Done, Refused, OutOfDraws, NotFinite}
+use Rattle.answers.proofs.Trained.{the-type}
+use Rattle.answers.specs.Answers.{staged, goOn, drawsUsed, ended}
+use Rattle.pq_train.specs.Training.{Listed, valueOnRange, taskOf, reached, centersAt, subCenters, codeOf}
+use Rattle.pq_train.specs.Inner.{listedOf, frameOf, Listing, FramedIn, RanAt, Centered, ListOut, listOutcome, Coding, codeBy}
 use Rattle.pq_train.proofs.Values.{train-same}
 
 -- ---- one sub-space
@@ -43,46 +46,46 @@ use Rattle.pq_train.proofs.Values.{train-same}
 pub stretch-within : (d nsub k s : ℕ) → s < nsub → k * beginOf d nsub s + k * widthOf d nsub s ≤ k * coveredOf d nsub
 stretch-within d nsub k s h = rw (← mul-add k (beginOf d nsub s) (widthOf d nsub s), ← begin-next d nsub s) (mul-le-mul-left k (begin-mono d nsub (suc s) nsub h))
 
-module _ {l : RowList} {rows : List Float} {members : List ℕ} {center draws : List Float} (h : Listing l rows members center draws) (s : ℕ) (below : s < l .nsub) where
-  pub begin-fits : centersOf (l .bits) * beginOf (l .d) (l .nsub) s ≤ 65_536
+module _ {l : RowList} {rows : List Float} {members : List ℕ} {center draws : List Float} (h : Listing l rows members center draws) (s : ℕ) (below : s < l .shape .nsub) where
+  pub begin-fits : centersOf (l .shape .bits) * beginOf (l .shape .d) (l .shape .nsub) s ≤ 65_536
   begin-fits =
-      let p = plain-bounds (l .d) (l .nsub) (l .bits) (h .good) in
-      omega (arith, mul-le-mul-right (beginOf (l .d) (l .nsub) s) (centers-most (l .bits) (p .bits-most)), begin-within (l .d) (l .nsub) (p .range) s (le-of-lt below), range-bounds (l .d) (l .nsub) (p .range) .d-most)
+      let p = plain-bounds (l .shape) (h .good) in
+      omega (arith, mul-le-mul-right (beginOf (l .shape .d) (l .shape .nsub) s) (centers-most (l .shape .bits) (p .bits-most)), begin-within (l .shape .d) (l .shape .nsub) (p .range) s (le-of-lt below), range-bounds (l .shape .d) (l .shape .nsub) (p .range) .d-most)
 
   -- its frame is held by the slices
   pub frame-held : FramedIn (frameOf l s) rows members center
   frame-held =
-      let p = plain-bounds (l .d) (l .nsub) (l .bits) (h .good) in
-      let inside : beginOf (l .d) (l .nsub) s + widthOf (l .d) (l .nsub) s ≤ l .d = rw (← begin-next (l .d) (l .nsub) s) (begin-within (l .d) (l .nsub) (p .range) (suc s) below) in
+      let p = plain-bounds (l .shape) (h .good) in
+      let inside : beginOf (l .shape .d) (l .shape .nsub) s + widthOf (l .shape .d) (l .shape .nsub) s ≤ l .shape .d = rw (← begin-next (l .shape .d) (l .shape .nsub) s) (begin-within (l .shape .d) (l .shape .nsub) (p .range) (suc s) below) in
       record {
         framed = record {
           some-row = h .some-row;
           rows-le = h .rows-le;
-          some-center = centers-some (l .bits);
-          centers-le = omega (arith, centers-most (l .bits) (p .bits-most));
+          some-center = centers-some (l .shape .bits);
+          centers-le = omega (arith, centers-most (l .shape .bits) (p .bits-most));
           inside = inside;
-          wide = width-most (l .d) (l .nsub) (p .range) s;
-          residual-long = length-part center (beginOf (l .d) (l .nsub) s) (widthOf (l .d) (l .nsub) s) (omega (arith, h .center-long));
+          wide = width-most (l .shape .d) (l .shape .nsub) (p .range) s;
+          residual-long = length-part center (beginOf (l .shape .d) (l .shape .nsub) s) (widthOf (l .shape .d) (l .shape .nsub) s) (omega (arith, h .center-long));
           listed-long = h .listed-long;
           held = h .held;
         };
         center-holds = omega (arith, h .center-long);
-        centers-le = centers-most (l .bits) (p .bits-most);
+        centers-le = centers-most (l .shape .bits) (p .bits-most);
       }
 
   -- on its range the frame's values are those of the list
-  value-same : (k j : ℕ) → j < widthOf (l .d) (l .nsub) s
-      → valueAt (frameOf l s) rows members (part center (beginOf (l .d) (l .nsub) s) (widthOf (l .d) (l .nsub) s)) k j ≡ valueOnRange (listedOf l rows members center draws 0) s k j
+  value-same : (k j : ℕ) → j < widthOf (l .shape .d) (l .shape .nsub) s
+      → valueAt (frameOf l s) rows members (part center (beginOf (l .shape .d) (l .shape .nsub) s) (widthOf (l .shape .d) (l .shape .nsub) s)) k j ≡ valueOnRange (listedOf l rows members center draws 0) s k j
   value-same k j k<w =
-      let b = beginOf (l .d) (l .nsub) s in
-      rw (getD-part center b (widthOf (l .d) (l .nsub) s) j nan k<w, add-assoc (memberOf (l .listed) members k * l .d) b j)
+      let b = beginOf (l .shape .d) (l .shape .nsub) s in
+      rw (getD-part center b (widthOf (l .shape .d) (l .shape .nsub) s) j nan k<w, add-assoc (memberOf (l .listed) members k * l .shape .d) b j)
 
   -- so its k-means is that of document 01's sub-space
   pub ran-sub : {used at w : ℕ} {subs subs' : List Float} {answer : Clustered} {assigned : List ℕ}
-      → RanAt (frameTask (frameOf l s) rows members (part center (beginOf (l .d) (l .nsub) s) (widthOf (l .d) (l .nsub) s)) (l .epochs) draws) used at w subs answer subs' assigned
+      → RanAt (frameTask (frameOf l s) rows members (part center (beginOf (l .shape .d) (l .shape .nsub) s) (widthOf (l .shape .d) (l .shape .nsub) s)) (l .epochs) draws) used at w subs answer subs' assigned
       → RanAt (taskOf (listedOf l rows members center draws 0) s) used at w subs answer subs' assigned
   ran-sub {used = used} {at = at} {w = w} {subs = subs} r =
-      let t = frameTask (frameOf l s) rows members (part center (beginOf (l .d) (l .nsub) s) (widthOf (l .d) (l .nsub) s)) (l .epochs) draws in
+      let t = frameTask (frameOf l s) rows members (part center (beginOf (l .shape .d) (l .shape .nsub) s) (widthOf (l .shape .d) (l .shape .nsub) s)) (l .epochs) draws in
       let e = train-same t (valueOnRange (listedOf l rows members center draws 0) s) (λ k m j k<w. value-same k j k<w) used in
       record {
         said = r .said ∙ ap (λ (q : Run). q .answer) e;
@@ -139,11 +142,11 @@ pub nothing-made {ℓ} : {A : Type ℓ} (stage : Stage) (c : Clustered) (t : Tra
 nothing-made stage c t e n used f = absurd (not-both t used (subst Refusal (sym e) (refused-staged stage c n)) f)
 
 -- the centres of sub-space s begin where those before it end
-pub centers-begin : (l : Listed) → Begins (centersAt l) (λ (s : ℕ). centersOf (l .bits) * beginOf (l .d) (l .nsub) s)
+pub centers-begin : (l : Listed) → Begins (centersAt l) (λ (s : ℕ). centersOf (l .shape .bits) * beginOf (l .shape .d) (l .shape .nsub) s)
 centers-begin l = record {
-  first = rw (begin-zero (l .d) (l .nsub)) (mul-zero (centersOf (l .bits)));
-  next = λ s. ap (λ (x : ℕ). centersOf (l .bits) * x) (begin-next (l .d) (l .nsub) s) ∙ mul-add (centersOf (l .bits)) (beginOf (l .d) (l .nsub) s) (widthOf (l .d) (l .nsub) s)
-      ∙ ap (λ (x : ℕ). centersOf (l .bits) * beginOf (l .d) (l .nsub) s + x) (sym (train-sized (taskOf l s) (drawsUsed (reached l s))));
+  first = rw (begin-zero (l .shape .d) (l .shape .nsub)) (mul-zero (centersOf (l .shape .bits)));
+  next = λ s. ap (λ (x : ℕ). centersOf (l .shape .bits) * x) (begin-next (l .shape .d) (l .shape .nsub) s) ∙ mul-add (centersOf (l .shape .bits)) (beginOf (l .shape .d) (l .shape .nsub) s) (widthOf (l .shape .d) (l .shape .nsub) s)
+      ∙ ap (λ (x : ℕ). centersOf (l .shape .bits) * beginOf (l .shape .d) (l .shape .nsub) s + x) (sym (train-sized (taskOf l s) (drawsUsed (reached l s))));
 }
 
 pub centers-reached : (l : Listed) (s used : ℕ) → reached l s ≡ Done used → train (taskOf l s) used .centers ≡ centersAt l s
@@ -181,39 +184,39 @@ list-refused l long t subs before assigned c r e f = rw (← c .said, e, f) (zer
 -- ---- a row's codes
 
 -- a range lies within the row, and its stretch within the sub-centres
-pub range-inside : (l : RowList) (x center subs : List Float) (s : ℕ) → Coding l x center subs → s < l .nsub → beginOf (l .d) (l .nsub) s + widthOf (l .d) (l .nsub) s ≤ l .d
-range-inside l x center subs s h below = rw (← begin-next (l .d) (l .nsub) s) (begin-within (l .d) (l .nsub) (plain-bounds (l .d) (l .nsub) (l .bits) (h .good) .range) (suc s) below)
+pub range-inside : (l : RowList) (x center subs : List Float) (s : ℕ) → Coding l x center subs → s < l .shape .nsub → beginOf (l .shape .d) (l .shape .nsub) s + widthOf (l .shape .d) (l .shape .nsub) s ≤ l .shape .d
+range-inside l x center subs s h below = rw (← begin-next (l .shape .d) (l .shape .nsub) s) (begin-within (l .shape .d) (l .shape .nsub) (plain-bounds (l .shape) (h .good) .range) (suc s) below)
 
-pub code-stretch : (l : RowList) (x center subs : List Float) (s : ℕ) → Coding l x center subs → s < l .nsub → centersOf (l .bits) * beginOf (l .d) (l .nsub) s + centersOf (l .bits) * widthOf (l .d) (l .nsub) s ≤ length subs
-code-stretch l x center subs s h below = rw (h .subs-long) (stretch-within (l .d) (l .nsub) (centersOf (l .bits)) s below)
+pub code-stretch : (l : RowList) (x center subs : List Float) (s : ℕ) → Coding l x center subs → s < l .shape .nsub → centersOf (l .shape .bits) * beginOf (l .shape .d) (l .shape .nsub) s + centersOf (l .shape .bits) * widthOf (l .shape .d) (l .shape .nsub) s ≤ length subs
+code-stretch l x center subs s h below = rw (h .subs-long) (stretch-within (l .shape .d) (l .shape .nsub) (centersOf (l .shape .bits)) s below)
 
 -- the nearest centre by the parts of the row, the residual and the sub-centres is the code
 pub code-chosen : (l : RowList) (x center subs xs rs cs : List Float) (s : ℕ)
-    → Part x (beginOf (l .d) (l .nsub) s) (widthOf (l .d) (l .nsub) s) xs
-    → Part center (beginOf (l .d) (l .nsub) s) (widthOf (l .d) (l .nsub) s) rs
-    → Part subs (centersOf (l .bits) * beginOf (l .d) (l .nsub) s) (centersOf (l .bits) * widthOf (l .d) (l .nsub) s) cs
-    → chosen (valueIn (l .has) xs rs) cs (length xs) (centersOf (l .bits)) ≡ codeBy l x center subs s
+    → Part x (beginOf (l .shape .d) (l .shape .nsub) s) (widthOf (l .shape .d) (l .shape .nsub) s) xs
+    → Part center (beginOf (l .shape .d) (l .shape .nsub) s) (widthOf (l .shape .d) (l .shape .nsub) s) rs
+    → Part subs (centersOf (l .shape .bits) * beginOf (l .shape .d) (l .shape .nsub) s) (centersOf (l .shape .bits) * widthOf (l .shape .d) (l .shape .nsub) s) cs
+    → chosen (valueIn (l .has) xs rs) cs (length xs) (centersOf (l .shape .bits)) ≡ codeBy l x center subs s
 unfolding codeBy
 code-chosen l x center subs xs rs cs s p q r =
-    let b = beginOf (l .d) (l .nsub) s in
-    let w = widthOf (l .d) (l .nsub) s in
-    rw (p .long, p .is, q .is, r .is) (chosen-ext (valueIn (l .has) (part x b w) (part center b w)) (λ (j : ℕ). valueIn (l .has) x center (b + j)) (part subs (centersOf (l .bits) * b) (centersOf (l .bits) * w)) w (centersOf (l .bits)) (λ j h. rw (getD-part x b w j nan h, getD-part center b w j nan h)))
+    let b = beginOf (l .shape .d) (l .shape .nsub) s in
+    let w = widthOf (l .shape .d) (l .shape .nsub) s in
+    rw (p .long, p .is, q .is, r .is) (chosen-ext (valueIn (l .has) (part x b w) (part center b w)) (λ (j : ℕ). valueIn (l .has) x center (b + j)) (part subs (centersOf (l .shape .bits) * b) (centersOf (l .shape .bits) * w)) w (centersOf (l .shape .bits)) (λ j h. rw (getD-part x b w j nan h, getD-part center b w j nan h)))
 
 -- the stretch of sub-space s of the finished sub-centres is its centres
-centers-part : (l : Listed) (s : ℕ) → s < l .nsub
-    → part (subCenters l) (centersOf (l .bits) * beginOf (l .d) (l .nsub) s) (centersOf (l .bits) * widthOf (l .d) (l .nsub) s) ≡ centersAt l s
+pub centers-part : (l : Listed) (s : ℕ) → s < l .shape .nsub
+    → part (subCenters l) (centersOf (l .shape .bits) * beginOf (l .shape .d) (l .shape .nsub) s) (centersOf (l .shape .bits) * widthOf (l .shape .d) (l .shape .nsub) s) ≡ centersAt l s
 unfolding subCenters
 centers-part l s below =
-    rw (← train-sized (taskOf l s) (drawsUsed (reached l s))) (part-join (centersAt l) (λ (q : ℕ). centersOf (l .bits) * beginOf (l .d) (l .nsub) q) (centers-begin l) (l .nsub) s below)
+    rw (← train-sized (taskOf l s) (drawsUsed (reached l s))) (part-join (centersAt l) (λ (q : ℕ). centersOf (l .shape .bits) * beginOf (l .shape .d) (l .shape .nsub) q) (centers-begin l) (l .shape .nsub) s below)
 
 -- against the finished sub-centres of its list, the code of a row with the values v is document 01's
 pub code-is : (l : RowList) (rows : List Float) (members : List ℕ) (residual draws : List Float) (used : ℕ) (x center : List Float) (v : ℕ → Float) (s : ℕ)
-    → badPlain (l .d) (l .nsub) (l .bits) ≡ false → s < l .nsub → ((j : ℕ) → j < l .d → valueIn (l .has) x center j ≡ v j)
+    → badPlain (l .shape) ≡ false → s < l .shape .nsub → ((j : ℕ) → j < l .shape .d → valueIn (l .has) x center j ≡ v j)
     → codeBy l x center (subCenters (listedOf l rows members residual draws used)) s ≡ codeOf (listedOf l rows members residual draws used) v s
 unfolding codeBy
 code-is l rows members residual draws used x center v s good below same =
     let u = listedOf l rows members residual draws used in
-    let b = beginOf (l .d) (l .nsub) s in
-    let w = widthOf (l .d) (l .nsub) s in
-    let inside : b + w ≤ l .d = rw (← begin-next (l .d) (l .nsub) s) (begin-within (l .d) (l .nsub) (plain-bounds (l .d) (l .nsub) (l .bits) good .range) (suc s) below) in
-    rw (centers-part u s below) (chosen-ext (λ (j : ℕ). valueIn (l .has) x center (b + j)) (λ (j : ℕ). v (b + j)) (centersAt u s) w (centersOf (l .bits)) (λ j h. same (b + j) (omega arith)))
+    let b = beginOf (l .shape .d) (l .shape .nsub) s in
+    let w = widthOf (l .shape .d) (l .shape .nsub) s in
+    let inside : b + w ≤ l .shape .d = rw (← begin-next (l .shape .d) (l .shape .nsub) s) (begin-within (l .shape .d) (l .shape .nsub) (plain-bounds (l .shape) good .range) (suc s) below) in
+    rw (centers-part u s below) (chosen-ext (λ (j : ℕ). valueIn (l .has) x center (b + j)) (λ (j : ℕ). v (b + j)) (centersAt u s) w (centersOf (l .shape .bits)) (λ j h. same (b + j) (omega arith)))

@@ -2,16 +2,21 @@
 use Prim.Native.Nat.{ℕ, zero, suc, _<_}
 use mathlib.Core.Path.{_≡_, refl, ap, fun-ext}
 use mathlib.Core.List.{List}
-use mathlib.Core.Bool.{Bool, cond}
+use mathlib.Core.Bool.{Bool}
 use native.Mathlib.Omega.{arith}
 use lib.IntN.{pos}
-use lib.Ieee.{Float, binary32, div, ofInt, add, sub}
-use Rattle.lists.specs.Lists.{tab, grid}
+use lib.Ieee.{Float, binary32, div, ofInt}
 use Rattle.lists.proofs.Tables.{tab-ext}
 use Rattle.lists.proofs.Joins.{grid-ext}
 use Rattle.metrics.proofs.Laws.{sum-ext}
-use Rattle.kmeans.specs.Kmeans.{Task, Run, column, meanAt, startAt, started, assignedOf, isOf, countAt, sumWhere, meanOf, averageAt, averagesOf, splitOff, fillCenter, splitTo, averaged, onward, epochOf, beginning, epochsTo, train}
-use Rattle.kmeans.proofs.Laws.{chosen-ext}
+use Rattle.kmeans_assign.specs.Task.{Task}
+use Rattle.kmeans_split.specs.Run.{Run, onwardBy}
+use Rattle.kmeans_start.specs.Start.{column, meanAt, meanOf, startAt, started}
+use Rattle.kmeans_assign.specs.Assign.{assignedOf}
+use Rattle.kmeans_average.specs.Average.{isOf, countAt, sumWhere, averageAt, averagesOf}
+use Rattle.kmeans_split.specs.Split.{splitOff, fillCenter, splitTo}
+use Rattle.kmeans.specs.Kmeans.{averaged, epochOf, beginning, epochsTo, train}
+use Rattle.kmeans_assign.proofs.Choosing.{chosen-ext}
 
 -- a sum over some rows depends on these rows' values alone
 where-ext : (p : ℕ → Bool) (f g : ℕ → Float) (n : ℕ) → ((k : ℕ) → k < n → f k ≡ g k) → sumWhere p f n ≡ sumWhere p g n
@@ -58,7 +63,7 @@ module _ (t : Task) (v : ℕ → ℕ → Float) (same : (k : ℕ) → k < t .n �
   epochs-same used zero = rw started-same
   epochs-same used (suc e) =
       let r = epochsTo valued used e in
-      rw (epochs-same used e) (ap (onward (r .answer) r) (fun-ext (λ at. epoch-same (suc e) r at)))
+      rw (epochs-same used e) (ap (onwardBy (r .answer) r) (fun-ext (λ at. epoch-same (suc e) r at)))
 
   pub train-same : (used : ℕ) → train t used ≡ train valued used
   train-same used = epochs-same used (t .epochs)

@@ -2,33 +2,34 @@
 use Prim.Native.Nat.{ℕ, _+_, _*_, _≤_, _<_}
 use mathlib.Core.Path.{_≡_}
 use mathlib.Core.List.{List}
-use mathlib.Core.Bool.{Bool, true, false}
+use mathlib.Core.Bool.{true, false}
 use lib.ListN.{length, getD}
 use lib.Ieee.{Float, nan}
-use Rattle.lists.specs.Lists.{fill, part, putPart}
+use Rattle.lists.specs.Lists.{fill, part, putPart, memberOf}
 use Rattle.metrics.specs.Distance.{zero32, valueOf, valueIn}
+use Rattle.pq_params.specs.declared.Shape.{Shape}
 use Rattle.pq_params.specs.Bounds.{badPlain, centersOf}
-use Rattle.pq_params.specs.Ranges.{beginOf, widthOf, coveredOf}
-use Rattle.kmeans.specs.declared.Frame.{Frame}
-use Rattle.kmeans.specs.declared.Clustered.{Clustered}
-use Rattle.kmeans.specs.Frame.{memberOf, Framed}
-use Rattle.kmeans.specs.Kmeans.{Task, train, chosen}
-use Rattle.kmeans.specs.Splits.{NotNegative}
+use Rattle.pq_params.specs.Ranges.{beginOf, widthOf, onRange}
+use Rattle.pq_params.specs.Lengths.{subsLong}
+use Rattle.kmeans_assign.specs.declared.Frame.{Frame}
+use Rattle.answers.specs.declared.Clustered.{Clustered}
+use Rattle.kmeans_assign.specs.Task.{Framed, Task, taskOf as frameTask}
+use Rattle.kmeans.specs.Kmeans.{train}
+use Rattle.kmeans_assign.specs.Assign.{chosen}
+use Rattle.kmeans_split.specs.Split.{NotNegative}
 use Rattle.pq_train.specs.declared.RowList.{RowList}
-use Rattle.pq_train.specs.declared.Trained.{Trained}
-use Rattle.pq_train.specs.declared.Trained.the-variants.{Done}
-use Rattle.pq_train.specs.Answers.{ended}
-use Rattle.pq_train.specs.Training.{Listed, onRange, answerOf, subCenters}
+use Rattle.answers.specs.declared.Trained.{Trained}
+use Rattle.answers.specs.declared.Trained.the-variants.{Done}
+use Rattle.answers.specs.Answers.{ended}
+use Rattle.pq_train.specs.Training.{Listed, answerOf, subCenters}
 
 -- the value of the k-th row at coordinate j of D
 abbrev pub valuesOf : RowList → List Float → List ℕ → List Float → ℕ → ℕ → Float
-valuesOf l rows members center k j = valueOf (l .has) (getD rows (memberOf (l .listed) members k * l .d + j) nan) (getD center j nan)
+valuesOf l rows members center k j = valueOf (l .has) (getD rows (memberOf (l .listed) members k * l .shape .d + j) nan) (getD center j nan)
 
 abbrev pub listedOf : RowList → List Float → List ℕ → List Float → List Float → ℕ → Listed
 listedOf l rows members center draws used = record {
-  d = l .d;
-  nsub = l .nsub;
-  bits = l .bits;
+  shape = l .shape;
   epochs = l .epochs;
   draws = draws;
   cell = l .cell;
@@ -40,30 +41,30 @@ listedOf l rows members center draws used = record {
 -- the frame of sub-space s
 abbrev pub frameOf : RowList → ℕ → Frame
 frameOf l s = record {
-  d = l .d;
-  begin = beginOf (l .d) (l .nsub) s;
-  w = widthOf (l .d) (l .nsub) s;
+  d = l .shape .d;
+  begin = beginOf (l .shape .d) (l .shape .nsub) s;
+  w = widthOf (l .shape .d) (l .shape .nsub) s;
   listed = l .listed;
   has = l .has;
   n = l .n;
-  centers = centersOf (l .bits);
+  centers = centersOf (l .shape .bits);
 }
 
 -- the slices hold the list's rows, its residual and draws in range, within document 01's bounds
 pub record Listing (l : RowList) (rows : List Float) (members : List ℕ) (center draws : List Float) : Type 0 where
-  pub good : badPlain (l .d) (l .nsub) (l .bits) ≡ false
+  pub good : badPlain (l .shape) ≡ false
   pub few-epochs : l .epochs ≤ 1000
   pub some-row : 0 < l .n
   pub rows-le : l .n ≤ 100_001
   pub cells-le : l .cell < 1024
-  pub center-long : l .d ≤ length center
+  pub center-long : l .shape .d ≤ length center
   pub listed-long : l .listed ≡ true → l .n ≤ length members
-  pub held : (k : ℕ) → k < l .n → memberOf (l .listed) members k * l .d + l .d ≤ length rows
+  pub held : (k : ℕ) → k < l .n → memberOf (l .listed) members k * l .shape .d + l .shape .d ≤ length rows
   pub in-range : NotNegative draws
 
 -- the sub-centres and the assignments are as long as the list asks, and no more draws are used than lent
 pub record Lent (l : RowList) (used : ℕ) (draws subs : List Float) (assigned : List ℕ) : Type 0 where
-  pub subs-long : length subs ≡ centersOf (l .bits) * coveredOf (l .d) (l .nsub)
+  pub subs-long : length subs ≡ subsLong (l .shape)
   pub assigned-long : length assigned ≡ l .n
   pub drawn : used ≤ length draws
 
@@ -72,6 +73,17 @@ pub record FramedIn (f : Frame) (rows : List Float) (members : List ℕ) (center
   pub framed : Framed f rows members (part center (f .begin) (f .w))
   pub center-holds : f .begin + f .w ≤ length center
   pub centers-le : f .centers ≤ 256
+
+-- the k-means of a frame, whose residual is the range's part of the list's
+abbrev pub rangeTask : Frame → List Float → List ℕ → List Float → ℕ → List Float → Task
+rangeTask f rows members center epochs draws = frameTask f rows members (part center (f .begin) (f .w)) epochs draws
+
+-- where the centres of sub-space s stand in the sub-centres of its list, and how long they are
+abbrev pub stretchAt : Shape → ℕ → ℕ
+stretchAt z s = centersOf (z .bits) * beginOf (z .d) (z .nsub) s
+
+abbrev pub stretchLong : Shape → ℕ → ℕ
+stretchLong z s = centersOf (z .bits) * widthOf (z .d) (z .nsub) s
 
 -- what a k-means leaves
 pub record Ran (t : Task) (used : ℕ) (answer : Clustered) (centers : List Float) (assigned : List ℕ) : Type 0 where
@@ -98,6 +110,9 @@ pub record ListOut : Type 0 where
   pub subs : List Float
   pub assigned : List ℕ
 
+abbrev pub listOut : Trained → List Float → List ℕ → ListOut
+listOut answer subs assigned = record { answer = answer; subs = subs; assigned = assigned }
+
 unfoldable pub listOutcome : Listed → ℕ → ListOut
 listOutcome l long = record {
   answer = answerOf l;
@@ -105,16 +120,21 @@ listOutcome l long = record {
   assigned = fill 0 (l .n);
 }
 
+-- row m of the rows
+abbrev pub rowIn : RowList → List Float → ℕ → List Float
+rowIn l rows m = part rows (m * l .shape .d) (l .shape .d)
+
 -- a row, its residual and the sub-centres of its list are as long as the numbers say
 pub record Coding (l : RowList) (x center subs : List Float) : Type 0 where
-  pub good : badPlain (l .d) (l .nsub) (l .bits) ≡ false
-  pub row-long : length x ≡ l .d
-  pub center-long : l .d ≤ length center
-  pub subs-long : length subs ≡ centersOf (l .bits) * coveredOf (l .d) (l .nsub)
+  pub good : badPlain (l .shape) ≡ false
+  pub row-long : length x ≡ l .shape .d
+  pub center-long : l .shape .d ≤ length center
+  pub subs-long : length subs ≡ subsLong (l .shape)
 
 -- the code, in sub-space s, of a row x less the residual, against the sub-centres of its list
 unfoldable pub codeBy : RowList → List Float → List Float → List Float → ℕ → ℕ
 codeBy l x center subs s =
-    let k = centersOf (l .bits) in
-    let w = widthOf (l .d) (l .nsub) s in
-    chosen (onRange (l .d) (l .nsub) s (valueIn (l .has) x center)) (part subs (k * beginOf (l .d) (l .nsub) s) (k * w)) w k
+    chosen (onRange (l .shape .d) (l .shape .nsub) s (valueIn (l .has) x center))
+    (part subs (stretchAt (l .shape) s) (stretchLong (l .shape) s))
+    (widthOf (l .shape .d) (l .shape .nsub) s)
+    (centersOf (l .shape .bits))

@@ -1,49 +1,24 @@
 // Training of one list of rows, all rows or those of a cell: its sub-centres, and the codes of its rows.
 ghost use mathlib.Core.Path.{_≡_};
-ghost use mathlib.Core.Bool.{true, false};
-ghost use Prim.Native.Nat.{ℕ, _+_, _*_, _≤_, _<_};
-ghost use lib.ListN.{length, getD};
+ghost use mathlib.Core.Bool.{false};
+ghost use Prim.Native.Nat.{_+_, _*_, _≤_, _<_};
+ghost use lib.ListN.{length};
 ghost use Rattle.lists.specs.Lists.{part, putPart, tab};
-ghost use Rattle.pq_params.specs.Bounds.{badPlain, centersOf};
-ghost use Rattle.pq_params.specs.Ranges.{beginOf, widthOf};
-ghost use Rattle.kmeans.specs.Frame.{taskOf};
-ghost use Rattle.kmeans.specs.Splits.{NotNegative};
-ghost use Rattle.pq_train.specs.Answers.{staged};
+ghost use Rattle.pq_params.specs.Bounds.{badPlain};
+ghost use Rattle.kmeans_split.specs.Split.{NotNegative};
 ghost use Rattle.pq_train.specs.Training.{taskOf as subTask};
-ghost use Rattle.pq_train.specs.Inner.{listedOf, frameOf, Listing, Lent, FramedIn, Ran, RanAt, Centered, ListOut, listOutcome, Coding, codeBy};
-use kmeans::Clustered;
-use kmeans::Frame;
-use kmeans::Step;
-
-// Which k-means of a training: the coarse one, or that of a sub-space of a cell (plain: cell 0).
-pub enum Stage {
-    Coarse,
-    Sub { cell: u32, sub: u32 },
-}
-
-// How a training ends: the draws used, refusal 1 to 7, or refusal 8 or 9 with its place.
-pub enum Trained {
-    Done(usize),
-    Refused(u32),
-    OutOfDraws {
-        stage: Stage,
-        epoch: u32,
-        center: u32,
-    },
-    NotFinite {
-        stage: Stage,
-        step: Step,
-        epoch: u32,
-        center: u32,
-    },
-}
+ghost use Rattle.pq_train.specs.Inner.{listedOf, frameOf, Listing, Lent, FramedIn, rangeTask, Ran, RanAt, stretchAt, stretchLong};
+ghost use Rattle.pq_train.specs.Inner.{Centered, listOut, listOutcome, Coding, rowIn, codeBy};
+use answers::Clustered;
+use answers::Stage;
+use answers::Trained;
+use kmeans_assign::Frame;
+use pq_params::Shape;
 
 // One list of rows to train: the index's numbers and the epochs, the cell, whether the rows stand in a list or are all rows, whether
 // a residual is taken off, and how many rows there are.
 pub struct RowList {
-    pub d: usize,
-    pub nsub: usize,
-    pub bits: usize,
+    pub shape: Shape,
     pub epochs: u32,
     pub cell: u32,
     pub listed: bool,
@@ -53,17 +28,17 @@ pub struct RowList {
 
 // The frame of sub-space s.
 fn frame(l: RowList, s: usize) -> Frame
-    requires { ⌜ (badPlain (l .d) (l .nsub) (l .bits) ≡ false) × (s < l .nsub) ⌝ }
+    requires { ⌜ (badPlain (l .shape) ≡ false) × (s < l .shape .nsub) ⌝ }
     ensures { λ r. ⌜ r ≡ frameOf l s ⌝ }
 {
     Frame {
-        d: l.d,
-        begin: pq_params::range_begin(l.d, l.nsub, s),
-        w: pq_params::range_width(l.d, l.nsub, s),
+        d: l.shape.d,
+        begin: pq_params::range_begin(l.shape.d, l.shape.nsub, s),
+        w: pq_params::range_width(l.shape.d, l.shape.nsub, s),
         listed: l.listed,
         has: l.has,
         n: l.n,
-        centers: pq_params::centers(l.bits),
+        centers: pq_params::centers(l.shape.bits),
     }
 }
 
@@ -80,9 +55,11 @@ fn train_stretch(
     assigned: &mut [u32],
 ) -> Clustered
     requires { ⌜ FramedIn f (now rows) (now members) (now center) ⌝ }
-    requires { ⌜ (length (now centers) ≡ f .centers * f .w) × (length (now assigned) ≡ f .n) × (epochs ≤ 1000) × (used ≤ length (now draws)) ⌝ }
+    requires { ⌜ (length (now centers) ≡ f .centers * f .w) × (length (now assigned) ≡ f .n) × (epochs ≤ 1000)
+        × (used ≤ length (now draws)) ⌝ }
     requires { ⌜ NotNegative (now draws) ⌝ }
-    ensures { λ r. ⌜ Ran (taskOf f (now (rows .entry)) (now (members .entry)) (part (now (center .entry)) (f .begin) (f .w)) epochs (now (draws .entry))) used r (now (centers .exit)) (now (assigned .exit)) ⌝ }
+    ensures { λ r. ⌜ Ran (rangeTask f (now (rows .entry)) (now (members .entry)) (now (center .entry)) epochs (now (draws .entry)))
+        used r (now (centers .exit)) (now (assigned .exit)) ⌝ }
 {
     let mut counts = [0u32; 256];
     let k = f.centers;
@@ -115,9 +92,11 @@ fn train_at(
     assigned: &mut [u32],
 ) -> Clustered
     requires { ⌜ FramedIn f (now rows) (now members) (now center) ⌝ }
-    requires { ⌜ (at + f .centers * f .w ≤ length (now subs)) × (length (now assigned) ≡ f .n) × (epochs ≤ 1000) × (used ≤ length (now draws)) ⌝ }
+    requires { ⌜ (at + f .centers * f .w ≤ length (now subs)) × (length (now assigned) ≡ f .n) × (epochs ≤ 1000)
+        × (used ≤ length (now draws)) ⌝ }
     requires { ⌜ NotNegative (now draws) ⌝ }
-    ensures { λ r. ⌜ RanAt (taskOf f (now (rows .entry)) (now (members .entry)) (part (now (center .entry)) (f .begin) (f .w)) epochs (now (draws .entry))) used at (f .centers * f .w) (now (subs .entry)) r (now (subs .exit)) (now (assigned .exit)) ⌝ }
+    ensures { λ r. ⌜ RanAt (rangeTask f (now (rows .entry)) (now (members .entry)) (now (center .entry)) epochs (now (draws .entry)))
+        used at (f .centers * f .w) (now (subs .entry)) r (now (subs .exit)) (now (assigned .exit)) ⌝ }
 {
     let e = at + f.centers * f.w;
     train_stretch(
@@ -146,8 +125,9 @@ fn train_sub(
     assigned: &mut [u32],
 ) -> Clustered
     requires { ⌜ Listing l (now rows) (now members) (now center) (now draws) ⌝ }
-    requires { ⌜ Lent l used (now draws) (now subs) (now assigned) × (s < l .nsub) ⌝ }
-    ensures { λ r. ⌜ RanAt (subTask (listedOf l (now (rows .entry)) (now (members .entry)) (now (center .entry)) (now (draws .entry)) 0) s) used (centersOf (l .bits) * beginOf (l .d) (l .nsub) s) (centersOf (l .bits) * widthOf (l .d) (l .nsub) s) (now (subs .entry)) r (now (subs .exit)) (now (assigned .exit)) ⌝ }
+    requires { ⌜ Lent l used (now draws) (now subs) (now assigned) × (s < l .shape .nsub) ⌝ }
+    ensures { λ r. ⌜ RanAt (subTask (listedOf l (now (rows .entry)) (now (members .entry)) (now (center .entry)) (now (draws .entry)) 0) s)
+        used (stretchAt (l .shape) s) (stretchLong (l .shape) s) (now (subs .entry)) r (now (subs .exit)) (now (assigned .exit)) ⌝ }
 {
     let f = frame(l, s);
     let at = f.centers * f.begin;
@@ -165,35 +145,6 @@ fn train_sub(
     )
 }
 
-// The answer of a sub-space's k-means, with its stage.
-fn staged(cell: u32, s: usize, c: Clustered) -> Trained
-    requires { ⌜ s < 64 ⌝ }
-    ensures { λ r. ⌜ r ≡ staged (Stage.Sub cell s) c ⌝ }
-{
-    let stage = Stage::Sub {
-        cell,
-        sub: s as u32,
-    };
-    match c {
-        Clustered::Done(used) => Trained::Done(used),
-        Clustered::OutOfDraws { epoch, center } => Trained::OutOfDraws {
-            stage,
-            epoch,
-            center,
-        },
-        Clustered::NotFinite {
-            step,
-            epoch,
-            center,
-        } => Trained::NotFinite {
-            stage,
-            step,
-            epoch,
-            center,
-        },
-    }
-}
-
 // All sub-spaces, rising; the draws used so far are carried on.
 fn train_center(
     l: RowList,
@@ -207,13 +158,18 @@ fn train_center(
 ) -> Trained
     requires { ⌜ Listing l (now rows) (now members) (now center) (now draws) ⌝ }
     requires { ⌜ Lent l start (now draws) (now subs) (now assigned) ⌝ }
-    ensures { λ r. ⌜ Centered (listedOf l (now (rows .entry)) (now (members .entry)) (now (center .entry)) (now (draws .entry)) start) r (now (subs .exit)) ⌝ }
+    ensures { λ r. ⌜ Centered (listedOf l (now (rows .entry)) (now (members .entry)) (now (center .entry)) (now (draws .entry)) start)
+        r (now (subs .exit)) ⌝ }
 {
     let mut used = start;
-    for s in 0..l.nsub {
+    for s in 0..l.shape.nsub {
         let c = train_sub(l, s, rows, members, center, draws, used, subs, assigned);
         let Clustered::Done(next) = c else {
-            return staged(l.cell, s, c);
+            let stage = Stage::Sub {
+                cell: l.cell,
+                sub: s as u32,
+            };
+            return answers::at_stage(stage, c);
         };
         used = next;
     }
@@ -233,7 +189,9 @@ pub fn train_list(
 ) -> Trained
     requires { ⌜ Listing l (now rows) (now members) (now center) (now draws) ⌝ }
     requires { ⌜ Lent l used (now draws) (now subs) (now assigned) ⌝ }
-    ensures { λ r. ⌜ _≡_ {A = ListOut} (record { answer = r; subs = now (subs .exit); assigned = now (assigned .exit) }) (listOutcome (listedOf l (now (rows .entry)) (now (members .entry)) (now (center .entry)) (now (draws .entry)) used) (length (now (subs .entry)))) ⌝ }
+    ensures { λ r. ⌜ listOut r (now (subs .exit)) (now (assigned .exit))
+        ≡ listOutcome (listedOf l (now (rows .entry)) (now (members .entry)) (now (center .entry)) (now (draws .entry)) used)
+        (length (now (subs .entry))) ⌝ }
 {
     let t = train_center(l, rows, members, center, draws, used, subs, assigned);
     lists::fill_numbers(assigned, 0);
@@ -246,33 +204,36 @@ pub fn train_list(
 
 // The code of a row x, less the residual, in sub-space s: the nearest of the list's sub-centres there.
 fn code_of(l: RowList, s: usize, x: &[f32], center: &[f32], subs: &[f32]) -> u8
-    requires { ⌜ Coding l (now x) (now center) (now subs) × (s < l .nsub) ⌝ }
+    requires { ⌜ Coding l (now x) (now center) (now subs) × (s < l .shape .nsub) ⌝ }
     ensures { λ r. ⌜ r ≡ codeBy l (now (x .entry)) (now (center .entry)) (now (subs .entry)) s ⌝ }
 {
     let f = frame(l, s);
     let values = lists::part(x, f.begin, f.w);
     let residual = lists::part(center, f.begin, f.w);
     let centers = lists::part(subs, f.centers * f.begin, f.centers * f.w);
-    kmeans::nearest(values, residual, f.has, centers, f.centers) as u8
+    kmeans_assign::nearest(values, residual, f.has, centers, f.centers) as u8
 }
 
 // The codes of a row x, less the residual.
 fn code_row(l: RowList, x: &[f32], center: &[f32], subs: &[f32], codes: &mut [u8])
-    requires { ⌜ Coding l (now x) (now center) (now subs) × (length (now codes) ≡ l .nsub) ⌝ }
-    ensures { λ _. ⌜ now (codes .exit) ≡ tab (codeBy l (now (x .entry)) (now (center .entry)) (now (subs .entry))) (l .nsub) ⌝ }
+    requires { ⌜ Coding l (now x) (now center) (now subs) × (length (now codes) ≡ l .shape .nsub) ⌝ }
+    ensures { λ _. ⌜ now (codes .exit) ≡ tab (codeBy l (now (x .entry)) (now (center .entry)) (now (subs .entry))) (l .shape .nsub) ⌝ }
 {
-    for s in 0..l.nsub {
+    for s in 0..l.shape.nsub {
         codes[s] = code_of(l, s, x, center, subs);
     }
 }
 
 // The codes of row m go to their place.
 pub fn fill_row(l: RowList, rows: &[f32], m: usize, center: &[f32], subs: &[f32], codes: &mut [u8])
-    requires { ⌜ Coding l (part (now rows) (m * l .d) (l .d)) (now center) (now subs) × (m * l .d + l .d ≤ length (now rows)) × (m * l .nsub + l .nsub ≤ length (now codes)) ⌝ }
-    ensures { λ _. ⌜ now (codes .exit) ≡ putPart (now (codes .entry)) (m * l .nsub) (l .nsub) (tab (codeBy l (part (now (rows .entry)) (m * l .d) (l .d)) (now (center .entry)) (now (subs .entry))) (l .nsub)) ⌝ }
+    requires { ⌜ Coding l (rowIn l (now rows) m) (now center) (now subs)
+        × (m * l .shape .d + l .shape .d ≤ length (now rows))
+        × (m * l .shape .nsub + l .shape .nsub ≤ length (now codes)) ⌝ }
+    ensures { λ _. ⌜ now (codes .exit) ≡ putPart (now (codes .entry)) (m * l .shape .nsub) (l .shape .nsub)
+        (tab (codeBy l (rowIn l (now (rows .entry)) m) (now (center .entry)) (now (subs .entry))) (l .shape .nsub)) ⌝ }
 {
-    let x = lists::stretch(rows, m, l.d);
-    let at = m * l.nsub;
-    let e = at + l.nsub;
+    let x = lists::stretch(rows, m, l.shape.d);
+    let at = m * l.shape.nsub;
+    let e = at + l.shape.nsub;
     code_row(l, x, center, subs, &mut codes[at..e]);
 }

@@ -1,23 +1,13 @@
 -- What the proofs of this crate cite.
-use Prim.Native.Nat.{ℕ, zero, suc, _+_, _*_, _≤_, _<_}
+use Prim.Native.Nat.{ℕ, _+_, _*_, _≤_, _<_}
 use mathlib.Core.Path.{_≡_, refl, sym, _∙_}
 use mathlib.Core.Bool.{Bool, true, false, not, cond, _&&_}
-use mathlib.Core.List.{List, [], _∷_}
+use mathlib.Core.List.{List}
 use native.Mathlib.Nat.{mul-le-mul}
 use native.Mathlib.Omega.{arith}
-use borrow.Author.Tests.{lt-ltb, le-ltb}
-use lib.Dec.{T, eqb, ltb}
-use lib.ListN.{length, getD, drop, drop-of-length-le, List·getD-eq-default}
-use lib.Ieee.{Float, nan, inf, fin, isNan}
-use lib.Ieee.Scale.{finite}
-use Rattle.recorded.specs.Layout.{wordAt, placeAfter, productOf, far}
-
--- what is finite is no NaN
-pub no-nan : (x : Float) → finite x ≡ true → T (not (isNan x))
-unfolding isNan
-no-nan nan e = let z : _≡_ {A = ℕ} 0 1 = cc in absurd (omega arith)
-no-nan (inf s) e = tt
-no-nan (fin s m e) h = tt
+use lib.Dec.{T}
+use lib.ListN.{length, drop, drop-of-length-le, List·getD-eq-default}
+use Rattle.recorded.specs.Layout.{wordAt}
 
 -- where the exponent is not all ones there is no NaN
 pub other-exponent : (a b : Bool) → a ≡ false → T (not (a && b))
@@ -54,12 +44,6 @@ cond-yes p x y e = rw e
 
 pub cond-no {ℓ} : {A : Type ℓ} (p : Bool) (x y : A) → p ≡ false → cond p x y ≡ y
 cond-no p x y e = rw e
-
--- below the end the value that stands past it does not matter
-pub same-default {ℓ} : {A : Type ℓ} (l : List A) (n : ℕ) (d d' : A) → n < length l → getD l n d ≡ getD l n d'
-same-default [] n d d' h = absurd (omega arith)
-same-default (x ∷ l) zero d d' h = refl
-same-default (x ∷ l) (suc n) d d' h = same-default l n d d' (omega arith)
 
 -- nothing stands from the end on
 pub none-from {ℓ} : {A : Type ℓ} (l : List A) (m n : ℕ) → length l ≤ m → length l ≤ n → drop m l ≡ drop n l

@@ -69,3 +69,7 @@ isCase l at kind = eqb (wordAt l at) kind && eqb (bytesOf l at % 4) 0 && leb (ne
 
 unfoldable pub bodyOf : List ℕ → ℕ → ℕ → List ℕ
 bodyOf l at kind = take (cond (isCase l at kind) (bytesOf l at) 0) (drop (placeAfter at 2 * 4) l)
+
+-- a search: k, its query of d coordinates, found, scored, k row numbers, k sums
+abbrev pub afterSearch : List ℕ → ℕ → ℕ → ℕ
+afterSearch l at d = placeAfter (placeAfter (placeAfter at 3) d) (placeAfter (wordAt l at) (wordAt l at))

@@ -4,7 +4,8 @@ ghost use mathlib.Core.Path.{_≡_};
 ghost use Prim.Native.Nat.{_*_, _≤_};
 ghost use lib.ListN.{length, getD, drop};
 ghost use Rattle.lists.specs.Lists.{tab};
-ghost use Rattle.recorded.specs.Layout.{wordIn, wordAt, placeAfter, productOf, paddedWords, floatOf, doubleOf, drawOf, numberAt, floatAt, drawAt, endsAt, casesOf, isCase, nextOf, bodyOf};
+ghost use Rattle.recorded.specs.Layout.{wordIn, wordAt, placeAfter, productOf, paddedWords, floatOf, doubleOf, drawOf};
+ghost use Rattle.recorded.specs.Layout.{numberAt, floatAt, drawAt, endsAt, casesOf, isCase, nextOf, bodyOf, afterSearch};
 
 // The four bytes of a word, the lowest first.
 fn joined(a: u8, b: u8, c: u8, d: u8) -> u32
@@ -190,6 +191,14 @@ pub fn next(file: &[u8], at: usize) -> usize
     after(after(at, 2), bytes / 4)
 }
 
+// The place after the search that is recorded at a place: k, a query of d coordinates, found, scored, k rows and k sums.
+pub fn after_search(body: &[u8], at: usize, d: usize) -> usize
+    ensures { λ r. ⌜ r ≡ afterSearch (now (body .entry)) at d ⌝ }
+{
+    let k = count(body, at);
+    after(after(after(at, 3), d), after(k, k))
+}
+
 // Whether the file has a case of a kind at a place, from its head to its end.
 fn is_case(file: &[u8], at: usize, kind: u32) -> bool
     ensures { λ r. ⌜ r ≡ isCase (now (file .entry)) at kind ⌝ }
@@ -205,10 +214,10 @@ pub fn body(file: &[u8], at: usize, kind: u32) -> &[u8]
     ensures { λ r. ⌜ now r ≡ bodyOf (now (file .entry)) at kind ⌝ }
 {
     if !is_case(file, at, kind) {
-        return crate::parts::bytes(file, 0);
+        return lending::parts::bytes(file, 0);
     }
     let rest = from(file, after(at, 2));
-    crate::parts::bytes(rest, count(file, after(at, 1)))
+    lending::parts::bytes(rest, count(file, after(at, 1)))
 }
 
 // What stands from a place on.

@@ -1,6 +1,3 @@
-// What the programs that replay recorded answers share: the layout of a recorded file, the first elements of a buffer, comparing bit
-// for bit, and counting.
+// What the programs that replay recorded answers share: the layout of a recorded file, and comparing with its words bit for bit.
 pub mod compare;
 pub mod layout;
-pub mod parts;
-pub mod tally;

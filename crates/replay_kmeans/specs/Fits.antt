@@ -4,7 +4,7 @@ use mathlib.Core.Path.{_≡_}
 use mathlib.Core.List.{List}
 use lib.ListN.{length}
 use lib.Ieee.{Float}
-use Rattle.kmeans.specs.declared.Frame.{Frame}
+use Rattle.kmeans_assign.specs.declared.Frame.{Frame}
 
 -- the numbers are within document 01's bounds
 pub record Bounded (f : Frame) : Type 0 where

@@ -1,9 +1,9 @@
 // k-means without a demand: each step is taken where the tests of `fits` hold, and is left out where they do not.
-use kmeans::Clustered;
-use kmeans::Frame;
+use answers::Clustered;
+use kmeans_assign::Frame;
 
 // How a checked step ends.
-pub enum Ran {
+pub(crate) enum Ran {
     Unfit,
     Ended(Clustered),
 }
@@ -62,7 +62,7 @@ fn assign(
     if !crate::fits::long(f, centers, assigned, counts) {
         return false;
     }
-    kmeans::search_data(f, rows, members, residual, centers, assigned);
+    kmeans_assign::search_data(f, rows, members, residual, centers, assigned);
     true
 }
 
@@ -87,7 +87,7 @@ fn split(
     if !crate::fits::drawn(draws) {
         return Ran::Unfit;
     }
-    Ran::Ended(kmeans::split_center(f, draws, 0, epoch, centers, counts))
+    Ran::Ended(kmeans_split::split_center(f, draws, 0, epoch, centers, counts))
 }
 
 // The epochs, and a split after them if there is one to be.
@@ -164,7 +164,7 @@ fn cluster(
 }
 
 // The same in the first elements of larger buffers, as many as the frame says.
-pub fn run(
+pub(crate) fn run(
     f: Frame,
     epochs: u32,
     splits: bool,

@@ -1,16 +1,15 @@
 // Document 01's worked examples of k-means, as cases of one table.
-ghost use mathlib.Core.Path.{_≡_};
-ghost use Rattle.kmeans.specs.Kmeans.{numberOf};
 use crate::checked::Ran;
-use kmeans::Clustered;
-use kmeans::Frame;
+use answers::Clustered;
+use answers::Stage;
+use kmeans_assign::Frame;
 use recorded::layout::product;
 use recorded::parts;
 use recorded::tally::Tally;
 
 // Rows of two coordinates, the number of centres, the epochs, whether a split follows, how many of the draws 0.0, 0.25, 0.5, 0.4 are lent;
 // and what comes out: the answer's number, the draws used, the centres, how many rows each has, and the last assignment.
-pub struct Example {
+pub(crate) struct Example {
     pub rows: [f32; 10],
     pub n: usize,
     pub centers: usize,
@@ -120,41 +119,10 @@ fn example_at(i: usize) -> Example {
     }
 }
 
-// An answer's number in document 01.
-fn number(c: Clustered) -> u32
-    ensures { λ r. ⌜ r ≡ numberOf c ⌝ }
-{
-    match c {
-        Clustered::Done(_) => 0,
-        Clustered::OutOfDraws {
-            epoch: _,
-            center: _,
-        } => 8,
-        Clustered::NotFinite {
-            step: _,
-            epoch: _,
-            center: _,
-        } => 9,
-    }
-}
-
-// Whether an answer is the example's. Of a refusal document 01 gives the number alone.
+// Whether an answer is the example's: its number, and the draws used. A refusal names no draws.
 fn is_answer(c: Clustered, e: Example) -> bool {
-    if number(c) != e.number {
-        return false;
-    }
-    match c {
-        Clustered::Done(used) => used == e.used,
-        Clustered::OutOfDraws {
-            epoch: _,
-            center: _,
-        } => true,
-        Clustered::NotFinite {
-            step: _,
-            epoch: _,
-            center: _,
-        } => true,
-    }
+    let said = answers::train_answer(answers::at_stage(Stage::Coarse, c));
+    (said.number == e.number) & (said.used == e.used)
 }
 
 // Whether centres, counts and assignment are the example's.
@@ -229,7 +197,7 @@ fn agrees(e: Example) -> bool {
 }
 
 // How many of the examples come out as document 01 says.
-pub fn agreeing() -> Tally {
+pub(crate) fn agreeing() -> Tally {
     let mut t = Tally { agree: 0, of: 0 };
     for i in 0..EXAMPLES {
         t = recorded::tally::counted(t, agrees(example_at(i)));

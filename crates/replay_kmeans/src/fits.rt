@@ -3,10 +3,11 @@ ghost use mathlib.Core.Path.{_≡_};
 ghost use mathlib.Core.Bool.{true};
 ghost use Prim.Native.Nat.{ℕ, _+_, _*_, _≤_, _<_};
 ghost use lib.ListN.{length};
-ghost use Rattle.kmeans.specs.Frame.{memberOf, Framed};
-ghost use Rattle.kmeans.specs.Splits.{NotNegative};
+ghost use Rattle.lists.specs.Lists.{memberOf};
+ghost use Rattle.kmeans_assign.specs.Task.{Framed};
+ghost use Rattle.kmeans_split.specs.Split.{NotNegative};
 ghost use Rattle.replay_kmeans.specs.Fits.{Bounded, Long};
-use kmeans::Frame;
+use kmeans_assign::Frame;
 
 // Whether the frame's numbers are within document 01's bounds.
 fn in_bounds(f: Frame) -> bool
@@ -40,14 +41,6 @@ fn is_listed(f: Frame, members: &[u32]) -> bool
     if f.listed { f.n <= members.len() } else { true }
 }
 
-// The row number of the k-th row: from the list, or k itself.
-fn row_number(f: Frame, members: &[u32], k: usize) -> usize
-    requires { ⌜ (f .listed ≡ true → k < length (now members)) ⌝ }
-    ensures { λ r. ⌜ r ≡ memberOf (f .listed) (now (members .entry)) k ⌝ }
-{
-    if f.listed { lists::wide(members[k]) } else { k }
-}
-
 // Whether a row is among the rows.
 fn is_held(d: usize, rows: &[f32], m: usize) -> bool
     requires { ⌜ d ≤ 256 ⌝ }
@@ -63,10 +56,12 @@ fn is_held(d: usize, rows: &[f32], m: usize) -> bool
 fn are_held(f: Frame, rows: &[f32], members: &[u32]) -> bool
     requires { ⌜ Bounded f ⌝ }
     requires { ⌜ (f .listed ≡ true → f .n ≤ length (now members)) ⌝ }
-    ensures { λ r. ⌜ (r ≡ true → (k : ℕ) → k < f .n → memberOf (f .listed) (now (members .entry)) k * f .d + f .d ≤ length (now (rows .entry))) ⌝ }
+    ensures { λ r.
+        let at : ℕ → ℕ = λ k. memberOf (f .listed) (now (members .entry)) k in
+        ⌜ (r ≡ true → (k : ℕ) → k < f .n → at k * f .d + f .d ≤ length (now (rows .entry))) ⌝ }
 {
     for k in 0..f.n {
-        let m = row_number(f, members, k);
+        let m = lists::row_number(f.listed, members, k);
         if !is_held(f.d, rows, m) {
             return false;
         }
@@ -75,7 +70,7 @@ fn are_held(f: Frame, rows: &[f32], members: &[u32]) -> bool
 }
 
 // Whether the slices hold what the frame speaks of.
-pub fn framed(f: Frame, rows: &[f32], members: &[u32], residual: &[f32]) -> bool
+pub(crate) fn framed(f: Frame, rows: &[f32], members: &[u32], residual: &[f32]) -> bool
     ensures { λ r. ⌜ (r ≡ true → Framed f (now (rows .entry)) (now (members .entry)) (now (residual .entry))) ⌝ }
 {
     if !in_bounds(f) {
@@ -91,7 +86,7 @@ pub fn framed(f: Frame, rows: &[f32], members: &[u32], residual: &[f32]) -> bool
 }
 
 // Whether no draw is below 0.
-pub fn drawn(draws: &[f64]) -> bool
+pub(crate) fn drawn(draws: &[f64]) -> bool
     ensures { λ r. ⌜ (r ≡ true → NotNegative (now (draws .entry))) ⌝ }
 {
     for k in 0..draws.len() {
@@ -103,7 +98,7 @@ pub fn drawn(draws: &[f64]) -> bool
 }
 
 // Whether the runs to be written are as long as the frame says.
-pub fn long(f: Frame, centers: &[f32], assigned: &[u32], counts: &[u32]) -> bool
+pub(crate) fn long(f: Frame, centers: &[f32], assigned: &[u32], counts: &[u32]) -> bool
     ensures { λ r. ⌜ (r ≡ true → Long f (now (centers .entry)) (now (assigned .entry)) (now (counts .entry))) ⌝ }
 {
     if 1024 < f.centers {

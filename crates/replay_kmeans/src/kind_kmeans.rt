@@ -1,14 +1,14 @@
 // A recorded k-means: its numbers, its lists and its answer, replayed by our code.
 use crate::checked::Ran;
-use kmeans::Clustered;
-use kmeans::Frame;
+use answers::Clustered;
+use kmeans_assign::Frame;
 use recorded::layout::after;
 use recorded::layout::count;
 use recorded::layout::product;
 use recorded::parts;
 
 // The numbers before the lists.
-pub struct Numbers {
+pub(crate) struct Numbers {
     pub d: usize,
     pub n: usize,
     pub begin: usize,
@@ -21,7 +21,7 @@ pub struct Numbers {
 }
 
 // Where each list after the rows begins, in words, the answer begins with the draws used, and the body ends.
-pub struct Offsets {
+pub(crate) struct Offsets {
     pub members: usize,
     pub residual: usize,
     pub draws: usize,
@@ -176,7 +176,7 @@ fn both(
 
 // Whether a recorded k-means agrees. A body that is not of the length that its numbers say, or that the buffers do not hold, does not.
 // Without a residual no word of its slice is used.
-pub fn agrees(body: &[u8]) -> bool {
+pub(crate) fn agrees(body: &[u8]) -> bool {
     let h = numbers_of(body);
     let p = offsets_of(h);
     if !recorded::layout::ends(body, p.end) {

@@ -1,74 +1,65 @@
 // A recorded plain index: its training and its searches, replayed by our code.
-use crate::buffers;
-use pq_idx::Searched;
-use pq_train::Trained;
+use answers::Trained;
+use lending::buffers;
+use lending::held;
+use lending::listed;
+use lending::parts;
+use pq_params::PlainLengths;
+use pq_params::Shape;
 use recorded::compare;
 use recorded::layout;
 use recorded::layout::after;
 use recorded::layout::count;
-use recorded::layout::product;
-use recorded::parts;
 
-// The numbers before the lists, and K.
-pub struct Numbers {
-    pub d: usize,
-    pub n_sub: usize,
-    pub sub_bits: usize,
-    pub epochs: usize,
-    pub n: usize,
-    pub lent: usize,
-    pub queries: usize,
-    pub covered: usize,
-    pub centers: usize,
+// The numbers before the lists.
+struct Numbers {
+    shape: Shape,
+    epochs: usize,
+    n: usize,
+    draws: usize,
+    queries: usize,
 }
 
 // Where each list after the rows begins, in words, and the answer begins with the draws used.
-pub struct Offsets {
-    pub draws: usize,
-    pub used: usize,
-    pub subs: usize,
-    pub codes: usize,
-    pub queries: usize,
+struct Offsets {
+    draws: usize,
+    used: usize,
+    subs: usize,
+    codes: usize,
+    queries: usize,
 }
 
 // The rows begin after the numbers.
 const ROWS: usize = 8;
 
-// 2 to the power of each legal sub_bits.
-const POWERS: [usize; 9] = [1, 2, 4, 8, 16, 32, 64, 128, 256];
-
-// K, or 0 for an illegal sub_bits.
-fn centers(sub_bits: usize) -> usize {
-    if sub_bits < 9 { POWERS[sub_bits] } else { 0 }
-}
-
 // The numbers of a body.
 fn numbers_of(body: &[u8]) -> Numbers {
-    Numbers {
+    let shape = Shape {
         d: count(body, 0),
-        n_sub: count(body, 1),
-        sub_bits: count(body, 2),
+        nsub: count(body, 1),
+        bits: count(body, 2),
+    };
+    Numbers {
+        shape,
         epochs: count(body, 3),
         n: count(body, 4),
-        lent: count(body, 5),
+        draws: count(body, 5),
         queries: count(body, 6),
-        covered: count(body, 7),
-        centers: centers(count(body, 2)),
     }
 }
 
 // Where the lists are.
-fn offsets_of(h: Numbers) -> Offsets {
-    let draws = after(ROWS, product(h.n, h.d));
-    let used = after(after(draws, h.lent), h.lent);
+fn offsets_of(h: Numbers, l: PlainLengths) -> Offsets {
+    let draws = after(ROWS, l.rows);
+    let used = after(after(draws, h.draws), h.draws);
     let subs = after(used, 1);
-    let codes = after(subs, product(h.centers, h.covered));
+    let codes = after(subs, l.subs);
     Offsets {
         draws,
         used,
         subs,
         codes,
-        queries: after(codes, layout::padded(product(h.n, h.n_sub))),
+        queries: after(codes, layout::padded(l.codes)),
     }
 }
 
@@ -84,140 +75,135 @@ fn is_trained(
     let Trained::Done(used) = t else {
         return false;
     };
-    if used != count(body, p.used) {
-        return false;
-    }
-    if !compare::floats(body, p.subs, subs) {
-        return false;
-    }
-    if !compare::bytes(body, p.codes, codes) {
-        return false;
-    }
-    compare::numbers_are(work, 0)
+    (used == count(body, p.used))
+        & compare::floats(body, p.subs, subs)
+        & compare::bytes(body, p.codes, codes)
+        & listed::numbers_are(work, 0)
 }
 
-// Whether a search ended with the recorded answer, which begins at a place, and left the table zero.
-fn is_found(
+// Whether a search, in the first elements of larger buffers, has the answer that is recorded at a place. All rows are visible.
+fn finds_in(
     body: &[u8],
     at: usize,
-    a: Searched,
-    rows: &[u32],
-    sums: &[f32],
-    table: &[f32],
+    k: usize,
+    h: Numbers,
+    query: &[f32],
+    subs: &[f32],
+    codes: &[u8],
+    rows: &mut [u32],
+    sums: &mut [f32],
+    table: &mut [f32],
 ) -> bool {
-    let Searched::Done { found, scored } = a else {
-        return false;
-    };
-    if (found != count(body, at)) | (scored != count(body, after(at, 1))) {
-        return false;
-    }
-    let results = after(at, 2);
-    if !compare::numbers(body, results, rows) {
-        return false;
-    }
-    if !compare::floats(body, after(results, rows.len()), sums) {
-        return false;
-    }
-    compare::floats_are(table, 0.0)
-}
-
-// What a search is asked for.
-fn asked_search(h: Numbers) -> [usize; 4] {
-    [h.d, h.n_sub, h.sub_bits, h.n]
-}
-
-// What a training is asked for.
-fn asked_training(h: Numbers) -> [usize; 5] {
-    [h.d, h.n_sub, h.sub_bits, h.epochs, h.n]
-}
-
-// Whether the search that is recorded at a place has the recorded answer. All rows are visible.
-fn finds(body: &[u8], at: usize, h: Numbers, subs: &[f32], codes: &[u8]) -> bool {
-    let k = count(body, at);
-    let size = product(h.n_sub, h.centers);
-    let mut query = [0.0f32; 256];
-    layout::floats(body, after(at, 1), &mut query);
+    let l = pq_params::plain_lengths(h.shape, h.n);
     let mask = [128u8; 512];
+    let x = held::numbers(rows, k);
+    let y = held::floats(sums, k);
+    let z = held::floats(table, l.table);
+    let a = plain_search::search(
+        h.shape,
+        h.n,
+        query,
+        parts::bytes(&mask, h.n),
+        subs,
+        codes,
+        &mut rows[..x],
+        &mut sums[..y],
+        &mut table[..z],
+    );
+    compare::found(
+        body,
+        at,
+        a,
+        parts::numbers(rows, x),
+        parts::floats(sums, y),
+        parts::floats(table, z),
+    )
+}
+
+// Whether the search that is recorded at a place has the recorded answer.
+fn finds(body: &[u8], at: usize, h: Numbers, subs: &[f32], codes: &[u8]) -> bool {
+    let d = h.shape.d;
+    let mut query = [0.0f32; 256];
     let mut rows = [buffers::DIRTY_NUMBER; 600];
     let mut sums = [buffers::DIRTY_FLOAT; 600];
-    let mut table = buffers::table();
-    let a = crate::lent::search(
-        asked_search(h),
-        [k, k, size],
-        parts::floats(&query, h.d),
-        parts::bytes(&mask, h.n),
+    let mut table = buffers::floats(buffers::DIRTY_FLOAT);
+    layout::floats(body, after(at, 1), &mut query);
+    finds_in(
+        body,
+        after(after(at, 1), d),
+        count(body, at),
+        h,
+        parts::floats(&query, d),
         subs,
         codes,
         &mut rows,
         &mut sums,
         &mut table,
-    );
-    is_found(
-        body,
-        after(after(at, 1), h.d),
-        a,
-        parts::numbers(&rows, k),
-        parts::floats(&sums, k),
-        parts::floats(&table, size),
     )
-}
-
-// The place after the search that is recorded at a place.
-fn after_search(body: &[u8], at: usize, d: usize) -> usize {
-    let k = count(body, at);
-    after(after(after(at, 3), d), after(k, k))
 }
 
 // Whether all recorded searches have their answers, and the body ends after them.
 fn finds_all(body: &[u8], h: Numbers, begin: usize, subs: &[f32], codes: &[u8]) -> bool {
     let mut at = begin;
+    let mut all = true;
     for i in 0..h.queries {
-        if !finds(body, at, h, subs, codes) {
-            return false;
-        }
-        at = after_search(body, at, h.d);
+        all = all & finds(body, at, h, subs, codes);
+        at = layout::after_search(body, at, h.shape.d);
     }
-    layout::ends(body, at)
+    all & layout::ends(body, at)
 }
 
-// Whether the training and the searches have their recorded answers.
-fn replays(body: &[u8], h: Numbers, p: Offsets, rows: &[f32], draws: &[f64]) -> bool {
-    let y = product(h.centers, h.covered);
-    let z = product(h.n, h.n_sub);
-    let v = after(h.n, 1_024);
-    let mut subs = buffers::subs();
-    let mut codes = buffers::codes();
-    let mut work = [buffers::DIRTY_NUMBER; 1_536];
-    let t = crate::lent::train(
-        asked_training(h),
-        [y, z, v],
+// Whether the training, in the first elements of larger buffers, and the searches have their recorded answers.
+fn replays_in(
+    body: &[u8],
+    h: Numbers,
+    l: PlainLengths,
+    rows: &[f32],
+    draws: &[f64],
+    subs: &mut [f32],
+    codes: &mut [u8],
+    work: &mut [u32],
+) -> bool {
+    let p = offsets_of(h, l);
+    let x = held::floats(subs, l.subs);
+    let y = held::bytes(codes, l.codes);
+    let z = held::numbers(work, l.work);
+    let t = plain_train::train(
+        h.shape,
+        h.epochs,
+        h.n,
         rows,
         draws,
-        &mut subs,
-        &mut codes,
-        &mut work,
+        &mut subs[..x],
+        &mut codes[..y],
+        &mut work[..z],
     );
-    let s = parts::floats(&subs, y);
-    let c = parts::bytes(&codes, z);
-    if !is_trained(body, p, t, s, c, parts::numbers(&work, v)) {
-        return false;
-    }
-    finds_all(body, h, p.queries, s, c)
+    let s = parts::floats(subs, x);
+    let c = parts::bytes(codes, y);
+    is_trained(body, p, t, s, c, parts::numbers(work, z)) & finds_all(body, h, p.queries, s, c)
+}
+
+// The same, in buffers that nobody wrote.
+fn replays(body: &[u8], h: Numbers, l: PlainLengths, rows: &[f32], draws: &[f64]) -> bool {
+    let mut subs = buffers::floats(buffers::DIRTY_FLOAT);
+    let mut codes = buffers::bytes(buffers::DIRTY_BYTE);
+    let mut work = [buffers::DIRTY_NUMBER; 1_536];
+    replays_in(body, h, l, rows, draws, &mut subs, &mut codes, &mut work)
 }
 
 // Whether a recorded plain index agrees. One that is laid out otherwise, or that the buffers do not hold, does not.
-pub fn agrees(body: &[u8]) -> bool {
+pub(crate) fn agrees(body: &[u8]) -> bool {
     let h = numbers_of(body);
-    let p = offsets_of(h);
-    let mut rows = buffers::rows();
+    let l = pq_params::plain_lengths(h.shape, h.n);
+    let mut rows = buffers::floats(0.0);
     let mut draws = buffers::draws();
     layout::floats(body, ROWS, &mut rows);
-    layout::draws(body, p.draws, &mut draws);
+    layout::draws(body, offsets_of(h, l).draws, &mut draws);
     replays(
         body,
         h,
-        p,
-        parts::floats(&rows, product(h.n, h.d)),
-        parts::draws(&draws, h.lent),
+        l,
+        parts::floats(&rows, l.rows),
+        parts::draws(&draws, h.draws),
     )
 }

@@ -1,12 +1,10 @@
 // Replays the recorded plain indexes of the Rust through our training and search, and prints how many agree. data/plain.bin is what the
 // oracle's command `record` writes, from the Rust's own answers; oracle/README.md has its layout.
-mod buffers;
 mod kind_plain;
-mod lent;
 
+use lending::tally;
+use lending::tally::Tally;
 use recorded::layout;
-use recorded::tally;
-use recorded::tally::Tally;
 
 // The kind of the file's cases.
 const PLAIN: u32 = 2;
@@ -29,9 +27,9 @@ fn replay_all(file: &[u8]) -> Tally {
 
 // All cases of an open file.
 fn replay_file(fd: i32) -> Tally {
-    let mut file = buffers::file();
+    let mut file = lending::buffers::file();
     let n = io::read_full(fd, &mut file);
-    replay_all(recorded::parts::bytes(&file, n))
+    replay_all(lending::parts::bytes(&file, n))
 }
 
 // The file.

@@ -29,12 +29,12 @@ pub fn write_modules(neighbors: Neighbors) {
     };
     let mut text = String::from("#[allow(warnings)]\npub mod core {\n");
     for name in CORE {
-        text += &module(name, &source.join("core").join(name).with_extension("rs"));
+        text += &module(name, watched(&source.join("core").join(name).with_extension("rs")));
     }
-    text += &module("neighbor", &neighbor);
+    text += &module("neighbor", watched(&neighbor));
     text += "}\n#[allow(warnings)]\npub mod index {\n";
-    text += &module("pq_params", &source.join("index/pq_params.rs"));
-    text += &module("pq_idx", &with_reach(&source.join("index/pq_idx.rs")));
+    text += &module("pq_params", watched(&source.join("index/pq_params.rs")));
+    text += &module("pq_idx", &with_reach(watched(&source.join("index/pq_idx.rs"))));
     text += "}\n";
     write(&out().join("modules.rs"), text.as_bytes());
 }
@@ -67,10 +67,9 @@ fn out() -> PathBuf {
 
 /// A copy of a file, byte for byte, followed by the declaration of the child module `reach`.
 fn with_reach(original: &Path) -> PathBuf {
-    println!("cargo:rerun-if-changed={}", original.display());
     let mut bytes = fs::read(original).unwrap_or_else(|e| panic!("{}: {e}", original.display()));
     bytes.push(b'\n');
-    bytes.extend(module("reach", &oracle().join("hora/src/reach.rs")).bytes());
+    bytes.extend(module("reach", watched(&oracle().join("hora/src/reach.rs"))).bytes());
     let copy = out().join("pq_idx.rs");
     write(&copy, &bytes);
     copy
@@ -78,8 +77,13 @@ fn with_reach(original: &Path) -> PathBuf {
 
 /// The declaration of a module whose text is the file at `path`.
 fn module(name: &str, path: &Path) -> String {
-    println!("cargo:rerun-if-changed={}", path.display());
     format!("#[path = {:?}]\npub mod {name};\n", path.display().to_string())
+}
+
+/// A file that decides what is built: if it changes, the build script runs again.
+fn watched(path: &Path) -> &Path {
+    println!("cargo:rerun-if-changed={}", path.display());
+    path
 }
 
 /// Writes a file of the build's own folder.

@@ -1,5 +1,6 @@
 //! A child module of the Rust's `pq_idx`, which may therefore read the private fields of an index.
-//! It only reads, and calls the Rust's own distance on a range.
+//! It only reads, and calls the Rust's own distance on a range; but for the number of probes, which
+//! it can set, as the Rust does when it makes an index.
 
 use super::{IVFPQIndex, PQIndex};
 use crate::core::node::Node;
@@ -50,4 +51,9 @@ pub fn lists(index: &IVFPQIndex<f32, usize>) -> &[Vec<usize>] {
 /// The plain index of each cell.
 pub fn cells(index: &IVFPQIndex<f32, usize>) -> &[PQIndex<f32, usize>] {
     &index._pq_list
+}
+
+/// Sets the number of cells that a search probes.
+pub fn set_probes(index: &mut IVFPQIndex<f32, usize>, probes: usize) {
+    index._search_n_center = probes;
 }

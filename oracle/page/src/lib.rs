@@ -26,31 +26,31 @@ impl Subject for Page {
         "page"
     }
 
-    fn ranges(&self, d: usize, n_sub: usize) -> Option<Result<Ranges, u32>> {
-        Some(ranges::ranges(d, n_sub))
+    fn ranges(&self, d: usize, n_sub: usize) -> Result<Ranges, u32> {
+        ranges::ranges(d, n_sub)
     }
 
-    fn kmeans(&self, task: Kmeans) -> Option<Trained> {
-        Some(kmeans::alone(task))
+    fn kmeans(&self) -> Option<fn(Kmeans) -> Trained> {
+        Some(kmeans::alone)
     }
 
-    fn train_plain(&self, task: PlainTraining) -> Option<Trained> {
-        Some(plain::train(task))
+    fn train_plain(&self, task: PlainTraining) -> Trained {
+        plain::train(task)
     }
 
-    fn search_plain(&self, task: PlainSearch) -> Option<Searched> {
-        Some(plain::search(task))
+    fn search_plain(&self, task: PlainSearch) -> Searched {
+        plain::search(task)
     }
 
-    fn train_celled(&self, task: CelledTraining) -> Option<Trained> {
-        Some(celled::train(task))
+    fn train_celled(&self, task: CelledTraining) -> Trained {
+        celled::train(task)
     }
 
-    fn search_celled(&self, task: CelledSearch) -> Option<Searched> {
-        Some(celled::search(task))
+    fn search_celled(&self, task: CelledSearch) -> Searched {
+        celled::search(task)
     }
 
-    fn check_celled(&self, task: CelledCheck) -> Option<Checked> {
-        Some(celled::check(task))
+    fn check_celled(&self, task: CelledCheck) -> Checked {
+        celled::check(task)
     }
 }

@@ -20,7 +20,8 @@ pub struct CelledParams {
 /// The list of ranges, begin and end; unused places are 0, 0.
 pub type Ranges = [[usize; 2]; 64];
 
-/// One k-means: a range of some rows, less a residual if there is one.
+/// One k-means: a range of some rows, less a residual if there is one. Its refusals are 8 and 9, named
+/// as of the coarse stage.
 pub struct Kmeans<'a> {
     pub d: usize,
     pub rows: &'a [f32],
@@ -161,26 +162,25 @@ pub type Checked = Result<(), u32>;
 /// A blank place of the results holds this row number, and the sum 0.0.
 pub const BLANK_ROW: u32 = u32::MAX;
 
-/// A voice in the comparison. An entry point that a voice does not have answers none, and the
-/// comparison says that it was left out.
+/// A voice in the comparison.
 pub trait Subject: Sync {
     /// What the printed lines call it.
     fn name(&self) -> &'static str;
 
     /// The range rule; refusal 1 is the only one.
-    fn ranges(&self, d: usize, n_sub: usize) -> Option<Result<Ranges, u32>>;
+    fn ranges(&self, d: usize, n_sub: usize) -> Result<Ranges, u32>;
 
-    /// One k-means; its refusals are 8 and 9, named as of the coarse stage.
-    fn kmeans(&self, task: Kmeans) -> Option<Trained>;
+    /// Its k-means; none if it has no entry point for one alone.
+    fn kmeans(&self) -> Option<fn(Kmeans) -> Trained>;
 
     /// Training of a plain index.
-    fn train_plain(&self, task: PlainTraining) -> Option<Trained>;
+    fn train_plain(&self, task: PlainTraining) -> Trained;
     /// Search of a plain index.
-    fn search_plain(&self, task: PlainSearch) -> Option<Searched>;
+    fn search_plain(&self, task: PlainSearch) -> Searched;
     /// Training of a celled index.
-    fn train_celled(&self, task: CelledTraining) -> Option<Trained>;
+    fn train_celled(&self, task: CelledTraining) -> Trained;
     /// Search of a celled index.
-    fn search_celled(&self, task: CelledSearch) -> Option<Searched>;
+    fn search_celled(&self, task: CelledSearch) -> Searched;
     /// The whole check of a celled index.
-    fn check_celled(&self, task: CelledCheck) -> Option<Checked>;
+    fn check_celled(&self, task: CelledCheck) -> Checked;
 }

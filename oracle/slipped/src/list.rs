@@ -150,6 +150,51 @@ pub const SLIPS: &[Slip] = &[
         )],
     ),
     slip(
+        "the first cell's centre as the residual of all",
+        "celled.rs",
+        &[(
+            "let residual = Some(&task.coarse[number * plain.d..(number + 1) * plain.d]);",
+            "let residual = Some(&task.coarse[..plain.d]);",
+        )],
+    ),
+    slip(
+        "draws begun anew for every cell",
+        "celled.rs",
+        &[(
+            "        cell.train(draws, sub_centres, task.codes)?;\n",
+            "        draws.used = 0;\n        cell.train(draws, sub_centres, task.codes)?;\n",
+        )],
+    ),
+    slip(
+        "lists that fall",
+        "celled.rs",
+        &[(
+            "in cell_of_row.iter().enumerate().filter(",
+            "in cell_of_row.iter().enumerate().rev().filter(",
+        )],
+    ),
+    slip(
+        "a refused celled training leaves its outputs",
+        "celled.rs",
+        &[("if trained.is_err() {", "if false {")],
+    ),
+    slip(
+        "the first probed cell scored and the others left out",
+        "celled.rs",
+        &[(
+            "    for &cell in &probed {\n        let centre",
+            "    for &cell in &probed[..1] {\n        let centre",
+        )],
+    ),
+    slip(
+        "the first cell's sub-centres for all in search",
+        "celled.rs",
+        &[(
+            "&index.sub_centres[cell * length..(cell + 1) * length]",
+            "&index.sub_centres[..length]",
+        )],
+    ),
+    slip(
         "the remainder of the ranges taken by n_sub",
         "ranges.rs",
         &[("let e = d % s;", "let e = d % n_sub;")],

@@ -1,14 +1,16 @@
 //! Puts a call to the library and checks it whole: the answer and every byte of every lent buffer
 //! against the page on equal copies, and that nothing beside the buffers was touched.
 
-use std::mem::size_of;
-
-use seat::{PlainParams, PlainSearch, PlainTraining, Subject};
+use seat::{
+    CelledCheck, CelledIndex, CelledParams, CelledSearch, CelledTraining, PlainParams, PlainSearch,
+    PlainTraining, Subject,
+};
 
 use crate::face::*;
+use crate::library::check_answer;
 
-use super::draft::{Call, Search, Shape, Training};
-use super::lend::{bytes_of, Lender, Loan, Manner};
+use super::call::{sides, Buffers, Call, Function, Loans, Shape, Side};
+use super::lend::{Lender, Manner};
 
 /// What a call came to.
 pub struct Outcome {
@@ -18,56 +20,58 @@ pub struct Outcome {
     pub difference: Option<String>,
 }
 
-/// A lent buffer beside what it was at entry and what document 01 leaves in it.
-struct Side<'a> {
-    name: &'static str,
-    size: usize,
-    entry: &'a [u8],
-    now: &'a [u8],
-    right: &'a [u8],
-    rim_is_whole: bool,
+/// An answer of any function.
+#[derive(Clone, Copy, Debug, PartialEq, Eq)]
+enum Answer {
+    Range(RangeAnswer),
+    PlainLengths(PlainBuffers),
+    CelledLengths(CelledBuffers),
+    Trained(TrainAnswer),
+    Searched(SearchAnswer),
+    Checked(u32),
 }
 
-/// A buffer's two sides; an input must be left as it was.
-fn side<'a, T: Copy>(
-    name: &'static str,
-    entry: &'a [T],
-    lent: &'a Loan<T>,
-    right: &'a [T],
-) -> Side<'a> {
-    let (entry, right) = (bytes_of(entry), bytes_of(right));
-    let rim_is_whole = lent.rim_is_whole();
-    Side { name, size: size_of::<T>(), entry, now: lent.bytes(), right, rim_is_whole }
-}
-
-impl Side<'_> {
-    /// The first byte at which a refusal that changes nothing changed it.
-    fn changed(&self, number: u32) -> Option<String> {
-        let at = (0..self.entry.len()).find(|&at| self.now[at] != self.entry[at])?;
-        Some(format!("refusal {number} changed byte {at} of {}", self.name))
-    }
-
-    /// The first element at which it is not what document 01 leaves.
-    fn differs(&self) -> Option<String> {
-        if self.now == self.right {
-            return None;
+impl Answer {
+    /// Its number.
+    fn number(&self) -> u32 {
+        match *self {
+            Answer::Range(answer) => answer.number,
+            Answer::PlainLengths(answer) => answer.number,
+            Answer::CelledLengths(answer) => answer.number,
+            Answer::Trained(answer) => answer.number,
+            Answer::Searched(answer) => answer.number,
+            Answer::Checked(number) => number,
         }
-        let pairs = self.right.chunks(self.size).zip(self.now.chunks(self.size)).enumerate();
-        let (at, (right, now)) = pairs.into_iter().find(|(_, (right, now))| right != now)?;
-        Some(format!(
-            "{} at {at}: document 01 leaves the bytes {right:x?}, the library {now:x?}",
-            self.name
-        ))
     }
 
-    /// Whether something beside the buffer was written to.
-    fn overrun(&self) -> Option<String> {
-        (!self.rim_is_whole).then(|| format!("written to beside {}", self.name))
+    /// Its number, and for an 8 or 9 what it names.
+    fn words(&self) -> String {
+        match self {
+            Answer::Trained(answer) => answer.words(),
+            _ => self.number().to_string(),
+        }
     }
+}
+
+/// Puts a call to the library and checks it.
+pub fn check(call: &Call, manner: Manner, lender: &mut Lender) -> Outcome {
+    lender.begin();
+    let lent = call.buffers.lend(manner, lender);
+    let heard = ask_library(call, &lent);
+    let unsound = unsound(call, heard, &lent);
+    let mut left = call.buffers.clone();
+    let right = ask_page(call, &mut left);
+    let sides = sides(&call.buffers, &lent, &left);
+    let unequal = || match right == heard {
+        true => None,
+        false => Some(format!("document 01 answers {right:?}, the library {heard:?}")),
+    };
+    let difference = unequal().or(unsound).or_else(|| unequal_buffers(heard.number(), &sides));
+    Outcome { answer: heard.words(), difference }
 }
 
 /// The first difference of all lent buffers.
-fn unequal(number: u32, sides: &[Side]) -> Option<String> {
+fn unequal_buffers(number: u32, sides: &[Side]) -> Option<String> {
     let overrun = sides.iter().find_map(Side::overrun);
     let changed = || match number {
         1..=7 => sides.iter().find_map(|side| side.changed(number)),
@@ -76,151 +80,208 @@ fn unequal(number: u32, sides: &[Side]) -> Option<String> {
     overrun.or_else(changed).or_else(|| sides.iter().find_map(Side::differs))
 }
 
-/// The difference of two answers in words.
-fn unequal_answers<A: PartialEq + std::fmt::Debug>(right: A, heard: A) -> Option<String> {
-    (right != heard).then(|| format!("document 01 answers {right:?}, the library {heard:?}"))
+/// What the library's own check has against an index that the library trained. It leaves every buffer
+/// as the training must leave it.
+fn unsound(call: &Call, heard: Answer, lent: &Loans) -> Option<String> {
+    if call.function != Function::CelledTrain || heard.number() != 0 {
+        return None;
+    }
+    let number = check_by_library(&call.shape, lent);
+    (number != 0).then(|| format!("the whole check answers {number} to what is trained"))
 }
 
-/// Puts a call to the library and checks it.
-pub fn check(call: &Call, manner: Manner, lender: &mut Lender) -> Outcome {
-    lender.begin();
-    match call {
-        Call::Range { d, n_sub, i } => check_range(*d, *n_sub, *i),
-        Call::Lengths(shape) => check_lengths(shape),
-        Call::Training(call) => check_training(call, manner, lender),
-        Call::Search(call) => check_search(call, manner, lender),
+/// What the library answers.
+#[rustfmt::skip]
+fn ask_library(call: &Call, lent: &Loans) -> Answer {
+    let Shape { d, n_sub, sub_bits, cells, probes, epochs, n } = call.shape;
+    let Loans {
+        rows, draws, query, mask, coarse, starts, members, subs, codes, work, found, sums, table,
+    } = lent;
+    unsafe {
+        match call.function {
+            Function::Range => Answer::Range(bergrosk_range(d, n_sub, call.i)),
+            Function::PlainLengths => {
+                Answer::PlainLengths(bergrosk_plain_lengths(d, n_sub, sub_bits, n))
+            }
+            Function::CelledLengths => {
+                Answer::CelledLengths(bergrosk_celled_lengths(d, n_sub, sub_bits, cells, probes, n))
+            }
+            Function::PlainTrain => Answer::Trained(bergrosk_plain_train(
+                d, n_sub, sub_bits, epochs, n,
+                rows.start, rows.len, draws.start, draws.len,
+                subs.start, subs.len, codes.start, codes.len, work.start, work.len,
+            )),
+            Function::PlainSearch => Answer::Searched(bergrosk_plain_search(
+                d, n_sub, sub_bits, n,
+                query.start, query.len, mask.start, mask.len,
+                subs.start, subs.len, codes.start, codes.len,
+                found.start, found.len, sums.start, sums.len, table.start, table.len,
+            )),
+            Function::CelledTrain => Answer::Trained(bergrosk_celled_train(
+                d, n_sub, sub_bits, cells, probes, epochs, n,
+                rows.start, rows.len, draws.start, draws.len,
+                coarse.start, coarse.len, starts.start, starts.len, members.start, members.len,
+                subs.start, subs.len, codes.start, codes.len, work.start, work.len,
+            )),
+            Function::CelledSearch => Answer::Searched(bergrosk_celled_search(
+                d, n_sub, sub_bits, cells, probes, n,
+                query.start, query.len, mask.start, mask.len,
+                coarse.start, coarse.len, starts.start, starts.len, members.start, members.len,
+                subs.start, subs.len, codes.start, codes.len,
+                found.start, found.len, sums.start, sums.len, table.start, table.len,
+            )),
+            Function::CelledCheck => Answer::Checked(check_by_library(&call.shape, lent)),
+        }
     }
 }
 
-/// One range.
-fn check_range(d: usize, n_sub: usize, i: usize) -> Outcome {
-    let heard = unsafe { bergrosk_range(d, n_sub, i) };
-    let right = match page::Page.ranges(d, n_sub).expect("the page has it") {
+/// What the library's whole check answers.
+#[rustfmt::skip]
+fn check_by_library(shape: &Shape, lent: &Loans) -> u32 {
+    let Shape { d, n_sub, sub_bits, cells, probes, n, .. } = *shape;
+    let Loans { coarse, starts, members, subs, codes, work, .. } = lent;
+    unsafe {
+        bergrosk_celled_check(
+            d, n_sub, sub_bits, cells, probes, n,
+            coarse.start, coarse.len, starts.start, starts.len, members.start, members.len,
+            subs.start, subs.len, codes.start, codes.len, work.start, work.len,
+        )
+    }
+}
+
+/// What document 01 answers; the buffers are left as it leaves them.
+fn ask_page(call: &Call, b: &mut Buffers) -> Answer {
+    let Shape { d, n_sub, sub_bits, cells, probes, epochs, n } = call.shape;
+    let plain = PlainParams { d, n_sub, sub_bits };
+    let params = CelledParams { plain, cells, probes };
+    let index = CelledIndex {
+        coarse: &call.buffers.coarse,
+        starts: &call.buffers.starts,
+        members: &call.buffers.members,
+        sub_centres: &call.buffers.subs,
+        codes: &call.buffers.codes,
+    };
+    match call.function {
+        Function::Range => Answer::Range(right_range(d, n_sub, call.i)),
+        Function::PlainLengths => Answer::PlainLengths(right_plain_lengths(&call.shape)),
+        Function::CelledLengths => Answer::CelledLengths(right_celled_lengths(&call.shape)),
+        Function::PlainTrain => {
+            Answer::Trained(TrainAnswer::of(page::Page.train_plain(PlainTraining {
+                params: plain,
+                epochs,
+                n,
+                rows: &b.rows,
+                draws: &b.draws,
+                sub_centres: &mut b.subs,
+                codes: &mut b.codes,
+                work: &mut b.work,
+            })))
+        }
+        Function::PlainSearch => {
+            Answer::Searched(SearchAnswer::of(page::Page.search_plain(PlainSearch {
+                params: plain,
+                n,
+                sub_centres: &b.subs,
+                codes: &b.codes,
+                mask: &b.mask,
+                query: &b.query,
+                table: &mut b.table,
+                rows: &mut b.found,
+                sums: &mut b.sums,
+            })))
+        }
+        Function::CelledTrain => {
+            Answer::Trained(TrainAnswer::of(page::Page.train_celled(CelledTraining {
+                params,
+                epochs,
+                n,
+                rows: &b.rows,
+                draws: &b.draws,
+                coarse: &mut b.coarse,
+                starts: &mut b.starts,
+                members: &mut b.members,
+                sub_centres: &mut b.subs,
+                codes: &mut b.codes,
+                work: &mut b.work,
+            })))
+        }
+        Function::CelledSearch => {
+            Answer::Searched(SearchAnswer::of(page::Page.search_celled(CelledSearch {
+                params,
+                n,
+                index,
+                mask: &b.mask,
+                query: &b.query,
+                table: &mut b.table,
+                rows: &mut b.found,
+                sums: &mut b.sums,
+            })))
+        }
+        Function::CelledCheck => {
+            Answer::Checked(check_answer(page::Page.check_celled(CelledCheck {
+                params,
+                n,
+                index,
+                work: &mut b.work,
+            })))
+        }
+    }
+}
+
+/// The range that document 01 has at a place.
+fn right_range(d: usize, n_sub: usize, i: usize) -> RangeAnswer {
+    match page::Page.ranges(d, n_sub) {
         Ok(list) => {
             let [begin, end] = list.get(i).copied().unwrap_or([0, 0]);
             RangeAnswer { number: 0, begin, end }
         }
         Err(number) => RangeAnswer { number, begin: 0, end: 0 },
-    };
-    Outcome { answer: heard.number.to_string(), difference: unequal_answers(right, heard) }
+    }
 }
 
-/// The lengths of a plain index.
-pub fn check_lengths(shape: &Shape) -> Outcome {
+/// Test 1 of a plain index's numbers, then test 3.
+fn refusal_of_numbers(shape: &Shape) -> u32 {
     let Shape { d, n_sub, sub_bits, n, .. } = *shape;
-    let heard = unsafe { bergrosk_plain_lengths(d, n_sub, sub_bits, n) };
-    let right = if page::Page.ranges(d, n_sub).expect("the page has it").is_err() || sub_bits > 8 {
-        Lengths { number: 1, ..Lengths::default() }
-    } else if n > 100_001 {
-        Lengths { number: 3, ..Lengths::default() }
-    } else {
-        Lengths {
+    match () {
+        _ if page::Page.ranges(d, n_sub).is_err() || sub_bits > 8 => 1,
+        _ if n > 100_001 => 3,
+        _ => 0,
+    }
+}
+
+/// The lengths of a plain index, written out.
+fn right_plain_lengths(shape: &Shape) -> PlainBuffers {
+    let Shape { d, n_sub, sub_bits, n, .. } = *shape;
+    match refusal_of_numbers(shape) {
+        0 => PlainBuffers {
             number: 0,
             rows: n * d,
             subs: page::covered(d, n_sub) << sub_bits,
             codes: n * n_sub,
             work: n + 1024,
             table: n_sub << sub_bits,
-        }
-    };
-    Outcome { answer: heard.number.to_string(), difference: unequal_answers(right, heard) }
+        },
+        number => PlainBuffers { number, ..PlainBuffers::default() },
+    }
 }
 
-/// The parameters that training and search share.
-fn params(shape: &Shape) -> PlainParams {
-    PlainParams { d: shape.d, n_sub: shape.n_sub, sub_bits: shape.sub_bits }
-}
-
-/// What document 01 makes of a training; the buffers are left as it leaves them.
-fn train_by_page(call: &mut Training) -> TrainAnswer {
-    let trained = page::Page.train_plain(PlainTraining {
-        params: params(&call.shape),
-        epochs: call.shape.epochs,
-        n: call.shape.n,
-        rows: &call.rows,
-        draws: &call.draws,
-        sub_centres: &mut call.subs,
-        codes: &mut call.codes,
-        work: &mut call.work,
-    });
-    TrainAnswer::of(trained.expect("the page has it"))
-}
-
-/// A training.
-fn check_training(call: &Training, manner: Manner, lender: &mut Lender) -> Outcome {
-    let Shape { d, n_sub, sub_bits, epochs, n } = call.shape;
-    let rows = lender.lend(manner, &call.rows);
-    let draws = lender.lend(manner, &call.draws);
-    let subs = lender.lend(manner, &call.subs);
-    let codes = lender.lend(manner, &call.codes);
-    let work = lender.lend(manner, &call.work);
-    #[rustfmt::skip]
-    let heard = unsafe {
-        bergrosk_plain_train(
-            d, n_sub, sub_bits, epochs, n,
-            rows.start, rows.len, draws.start, draws.len,
-            subs.start, subs.len, codes.start, codes.len, work.start, work.len,
-        )
-    };
-    let mut right = call.clone();
-    let answer = train_by_page(&mut right);
-    let sides = [
-        side("rows", &call.rows, &rows, &right.rows),
-        side("draws", &call.draws, &draws, &right.draws),
-        side("subs", &call.subs, &subs, &right.subs),
-        side("codes", &call.codes, &codes, &right.codes),
-        side("work", &call.work, &work, &right.work),
-    ];
-    let difference = unequal_answers(answer, heard).or_else(|| unequal(heard.number, &sides));
-    Outcome { answer: heard.words(), difference }
-}
-
-/// What document 01 makes of a search; the buffers are left as it leaves them.
-fn search_by_page(call: &mut Search) -> SearchAnswer {
-    let searched = page::Page.search_plain(PlainSearch {
-        params: params(&call.shape),
-        n: call.shape.n,
-        sub_centres: &call.subs,
-        codes: &call.codes,
-        mask: &call.mask,
-        query: &call.query,
-        table: &mut call.table,
-        rows: &mut call.rows,
-        sums: &mut call.sums,
-    });
-    SearchAnswer::of(searched.expect("the page has it"))
-}
-
-/// A search.
-fn check_search(call: &Search, manner: Manner, lender: &mut Lender) -> Outcome {
-    let Shape { d, n_sub, sub_bits, n, .. } = call.shape;
-    let query = lender.lend(manner, &call.query);
-    let mask = lender.lend(manner, &call.mask);
-    let subs = lender.lend(manner, &call.subs);
-    let codes = lender.lend(manner, &call.codes);
-    let rows = lender.lend(manner, &call.rows);
-    let sums = lender.lend(manner, &call.sums);
-    let table = lender.lend(manner, &call.table);
-    #[rustfmt::skip]
-    let heard = unsafe {
-        bergrosk_plain_search(
-            d, n_sub, sub_bits, n,
-            query.start, query.len, mask.start, mask.len,
-            subs.start, subs.len, codes.start, codes.len,
-            rows.start, rows.len, sums.start, sums.len, table.start, table.len,
-        )
-    };
-    let mut right = call.clone();
-    let answer = search_by_page(&mut right);
-    let sides = [
-        side("query", &call.query, &query, &right.query),
-        side("mask", &call.mask, &mask, &right.mask),
-        side("subs", &call.subs, &subs, &right.subs),
-        side("codes", &call.codes, &codes, &right.codes),
-        side("rows", &call.rows, &rows, &right.rows),
-        side("sums", &call.sums, &sums, &right.sums),
-        side("table", &call.table, &table, &right.table),
-    ];
-    let difference = unequal_answers(answer, heard).or_else(|| unequal(heard.number, &sides));
-    Outcome { answer: heard.number.to_string(), difference }
+/// The lengths of a celled index, written out.
+fn right_celled_lengths(shape: &Shape) -> CelledBuffers {
+    let Shape { d, n_sub, sub_bits, cells, probes, n, .. } = *shape;
+    let in_bounds = (1..=1024).contains(&cells) && (1..=cells).contains(&probes);
+    match refusal_of_numbers(shape) {
+        0 | 3 if !in_bounds => CelledBuffers { number: 1, ..CelledBuffers::default() },
+        0 => CelledBuffers {
+            number: 0,
+            rows: n * d,
+            coarse: cells * d,
+            starts: cells + 1,
+            members: n,
+            subs: (cells * page::covered(d, n_sub)) << sub_bits,
+            codes: n * n_sub,
+            work: n + 1024,
+            table: n_sub << sub_bits,
+        },
+        number => CelledBuffers { number, ..CelledBuffers::default() },
+    }
 }

@@ -46,7 +46,7 @@ struct Region {
 impl Region {
     /// A region of at least so many bytes.
     fn new(bytes: usize) -> Region {
-        let len = (bytes + GRANULE - 1) / GRANULE * GRANULE;
+        let len = bytes.next_multiple_of(GRANULE);
         unsafe {
             let whole = len + 2 * GRANULE;
             let wall = mmap(ptr::null_mut(), whole, PROT_NONE, MAP_PRIVATE_ANONYMOUS, -1, 0);
@@ -177,5 +177,5 @@ impl<T> Drop for Loan<T> {
 
 /// The bytes of a list of numbers.
 pub fn bytes_of<T: Copy>(list: &[T]) -> &[u8] {
-    unsafe { slice::from_raw_parts(list.as_ptr() as *const u8, list.len() * size_of::<T>()) }
+    unsafe { slice::from_raw_parts(list.as_ptr() as *const u8, size_of_val(list)) }
 }

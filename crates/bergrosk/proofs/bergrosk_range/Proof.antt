@@ -10,10 +10,6 @@ use mathlib.Core.Bool.{Bool, true, false, cond}
 use mir.Val.{boolByte}
 use Rattle.bergrosk.proofs.bergrosk_range.Statement.{statement}
 use Rattle.bergrosk.proofs.bergrosk_range.Tie as tie
-use Rattle.bergrosk.proofs.bergrosk_range.Reads as reads
-use Rattle.bergrosk.proofs.bergrosk_range.Lts as lts
-use Rattle.pq_params.proofs.bad_range.Reads as bad-range-reads
-use Rattle.pq_params.proofs.range_at.Reads as range-at-reads
 
 -- what a cast makes of a test
 byte-is : (b : Bool) → boolByte b ≡ cond b 1 0
@@ -27,27 +23,12 @@ numbered d nsub i number = record { number = number; begin = getD (pairAt d nsub
 faced : (d nsub i : ℕ) (b : Bool) → b ≡ badRange d nsub → numbered d nsub i (boolByte b) ≡ rangeAnswerOf d nsub i
 faced d nsub i b e = ap (numbered d nsub i) (byte-is b ∙ ap (λ (x : Bool). cond x 1 0) e)
 
-range-at-requires : tie.Need-range-at-requires
-range-at-requires c κs = search needs
-
-bad-range-requires : tie.Need-bad-range-requires
-bad-range-requires c κs = search needs
-
-cast-t7 : tie.Need-cast-t7
-cast-t7 c = search needs
-
-array-read-t10 : tie.Need-array-read-t10
-array-read-t10 c = search needs
-
-array-read-t13 : tie.Need-array-read-t13
-array-read-t13 c = search needs
-
 returns : tie.Need-returns
 returns c =
     let a = c .before .before .args in
-    rw (c .before .range-at .ensures) (faced (a .d) (a .n-sub) (a .i) (c .bad-range .result) (c .bad-range .ensures))
+    rw (c .before .range-at .ensures) (faced (a .d) (a .nsub) (a .i) (c .bad-range .result) (c .bad-range .ensures))
 
 pub bergrosk-range-spec : {M : Type 1} → statement M
 bergrosk-range-spec =
     tie.close
-    (tie.spec range-at-requires bad-range-requires cast-t7 array-read-t10 array-read-t13 returns)
+    (tie.spec (λ c κs. search needs) (λ c κs. search needs) (λ c. search needs) (λ c. search needs) (λ c. search needs) returns)

@@ -1,36 +1,18 @@
 use borrow.Author.Needs.{needs}
-use mathlib.Core.Path.{_≡_, refl, sym, _∙_, ap}
-use native.Mathlib.Omega.{arith}
+use mathlib.Core.Path.{_≡_, _∙_}
 use lib.ListN.{length}
-use Rattle.kmeans.specs.declared.Clustered.the-variants.{Done}
-use Rattle.kmeans.specs.Frame.{taskOf}
-use Rattle.kmeans.specs.Inner.{runOf}
-use Rattle.kmeans.proofs.Laws.{averaged-same, averaged-done, epoch-refused, epoch-last, epoch-split, split-same, told-not-done}
-use mathlib.Core.List.{[]}
-use Rattle.kmeans.specs.Kmeans.{splitTo}
+use Rattle.answers.specs.declared.Clustered.the-variants.{Done}
+use Rattle.kmeans_assign.specs.Task.{taskOf, rowTask}
+use Rattle.kmeans_split.specs.Run.{runOf}
+use Rattle.kmeans.proofs.Training.{averaged-same, averaged-done, epoch-refused, epoch-last, epoch-split}
+use Rattle.kmeans_split.proofs.Runs.{split-same, told-not-done}
 use Rattle.kmeans.proofs.run_epoch.Statement.{statement}
 use Rattle.kmeans.proofs.run_epoch.Tie as tie
-use Rattle.kmeans.proofs.run_epoch.Reads as reads
-use Rattle.kmeans.proofs.run_epoch.Lts as lts
-use Rattle.kmeans.proofs.average.Reads as average-reads
-use Rattle.kmeans.proofs.split_center.Reads as split-center-reads
 
 average-requires : tie.Need-average-requires
 average-requires c κs =
     let s = c .before .before .before .before .before .before .before .before .before .before in
     (s .pre .0, (s .pre .1 .centers-long, s .pre .1 .assigned-long, s .pre .1 .counts-long))
-
-enum-known-c : tie.Need-enum-known-c
-enum-known-c c = search needs
-
-same-length : tie.Need-same-length
-same-length c = search needs
-
-same-length-2 : tie.Need-same-length-2
-same-length-2 c = search needs
-
-same-length-3 : tie.Need-same-length-3
-same-length-3 c = search needs
 
 returns : tie.Need-returns
 returns c =
@@ -44,7 +26,7 @@ split-center-requires c κs =
     let s = c .before .before .before .before .before .before .before .before .before .before .before .before .before .before .before .before .before .before .before .before .before .before .before in
     let a = s .args in
     let v = c .before .before .before .before .before .before .before .before .before .before .before .before .average in
-    let e = averaged-done (taskOf (a .f) (a .rows .now) (a .members .now) (a .residual .now) 0 []) (a .epoch) (a .used) (c .before .before .before .before .c .given .0 .0) _ _ (v .ensures) (c .before .before .before .before .c .given .1) in
+    let e = averaged-done (rowTask (a .f) (a .rows .now) (a .members .now) (a .residual .now)) (a .epoch) (a .used) (c .before .before .before .before .c .given .0 .0) _ _ (v .ensures) (c .before .before .before .before .c .given .1) in
     let l : length (v .last .1 .1 .1 .1 .1 .1 .0) ≡ length (a .centers .now) = search needs in
     let m : length (v .last .1 .1 .1 .1 .1 .1 .1 .1 .0) ≡ length (a .counts .now) = search needs in
     record {
@@ -58,15 +40,6 @@ split-center-requires c κs =
       drawn = rw e (s .pre .1 .drawn);
     }
 
-same-length-4 : tie.Need-same-length-4
-same-length-4 c = search needs
-
-same-length-5 : tie.Need-same-length-5
-same-length-5 c = search needs
-
-same-length-6 : tie.Need-same-length-6
-same-length-6 c = search needs
-
 returns-2 : tie.Need-returns-2
 returns-2 c =
     let a = c .before .before .before .before .before .before .before .before .before .before .before .before .before .before .before .before .before .before .before .before .before .before .before .before .before .before .before .before .args in
@@ -74,16 +47,7 @@ returns-2 c =
     let r = runOf (Done (a .used)) (a .centers .now) (a .assigned .now) (a .counts .now) in
     let t = taskOf (a .f) (a .rows .now) (a .members .now) (a .residual .now) (a .epochs) (a .draws .now) in
     let q = rw (c .before .before .before .before .before .before .before .before .before .c .given .1) at (v .ensures ∙ averaged-same (a .f) (a .rows .now) (a .members .now) (a .residual .now) (a .draws .now) (a .epochs) (a .epoch) (a .used) r) in
-    epoch-split t (a .epoch) (a .used) r _ _ q (c .before .before .before .before .before .before .before .if1 .taken) (c .before .before .before .before .split-center .ensures _ ∙ split-same (a .f) (a .rows .now) (a .members .now) (a .residual .now) (a .draws .now) (a .epochs) (a .epoch) _ (a .f .centers))
-
-same-length-7 : tie.Need-same-length-7
-same-length-7 c = search needs
-
-same-length-8 : tie.Need-same-length-8
-same-length-8 c = search needs
-
-same-length-9 : tie.Need-same-length-9
-same-length-9 c = search needs
+    epoch-split t (a .epoch) (a .used) r _ _ q (c .before .before .before .before .before .before .before .if1 .taken) (c .before .before .before .before .split-center .ensures _ .run ∙ split-same (a .f) (a .rows .now) (a .members .now) (a .residual .now) (a .draws .now) (a .epochs) (a .epoch) _ (a .f .centers))
 
 returns-3 : tie.Need-returns-3
 returns-3 c =
@@ -99,17 +63,17 @@ run-epoch-spec =
     tie.close
     (tie.spec
     average-requires
-    enum-known-c
-    same-length
-    same-length-2
-    same-length-3
+    (λ c. search needs)
+    (λ c. search needs)
+    (λ c. search needs)
+    (λ c. search needs)
     returns
     split-center-requires
-    same-length-4
-    same-length-5
-    same-length-6
+    (λ c. search needs)
+    (λ c. search needs)
+    (λ c. search needs)
     returns-2
-    same-length-7
-    same-length-8
-    same-length-9
+    (λ c. search needs)
+    (λ c. search needs)
+    (λ c. search needs)
     returns-3)

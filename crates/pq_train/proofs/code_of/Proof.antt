@@ -1,21 +1,13 @@
-use borrow.Author.Needs.{needs}
-use Prim.Native.Nat.{ℕ, _+_, _*_, _≤_, _<_}
-use mathlib.Core.Path.{_≡_, sym, _∙_, ap}
+use Prim.Native.Nat.{ℕ, _*_}
+use mathlib.Core.Path.{sym, _∙_, ap}
 use native.Mathlib.Omega.{arith}
 use native.Mathlib.Nat.{lt-of-lt-of-le}
-use lib.ListN.{length}
 use Rattle.pq_params.specs.Bounds.{centersOf}
-use Rattle.pq_params.specs.Ranges.{beginOf, widthOf, coveredOf}
 use Rattle.pq_params.proofs.Numbers.{numbers}
-use Rattle.kmeans.proofs.Laws.{nearest-lt}
+use Rattle.kmeans_assign.proofs.Choosing.{nearest-lt}
 use Rattle.pq_train.proofs.Laws.{range-inside, code-stretch, code-chosen}
 use Rattle.pq_train.proofs.code_of.Statement.{statement}
 use Rattle.pq_train.proofs.code_of.Tie as tie
-use Rattle.pq_train.proofs.code_of.Reads as reads
-use Rattle.pq_train.proofs.code_of.Lts as lts
-use Rattle.kmeans.proofs.nearest.Reads as nearest-reads
-use Rattle.lists.proofs.part.Reads as part-reads
-use Rattle.pq_train.proofs.frame.Reads as frame-reads
 
 frame-requires : tie.Need-frame-requires
 frame-requires c κs =
@@ -55,14 +47,14 @@ nearest-requires c κs =
     let p = rw e at (c .before .before .before .before .part .ensures .long) in
     let q = rw e at (c .before .before .before .part2 .ensures .long) in
     let r = rw e at (c .part3 .ensures .long) in
-    rw e (q ∙ sym p, r ∙ ap (λ (w : ℕ). centersOf (l .bits) * w) (sym p), numbers (l .d) (l .nsub) (l .bits) (s .pre .0 .good) .centers-some)
+    rw e (q ∙ sym p, r ∙ ap (λ (w : ℕ). centersOf (l .shape .bits) * w) (sym p), numbers (l .shape) (s .pre .0 .good) .centers-some)
 
 cast-result : tie.Need-cast-result
 cast-result c =
     let s = c .before .before .before .before .before .before .before .before .before .before in
     let l = s .args .l in
-    let k = numbers (l .d) (l .nsub) (l .bits) (s .pre .0 .good) in
-    record { fits = rw (c .nearest .ensures, c .before .before .before .before .before .before .frame .ensures) (lt-of-lt-of-le (nearest-lt _ (centersOf (l .bits)) (k .centers-some)) (k .centers-most)) }
+    let k = numbers (l .shape) (s .pre .0 .good) in
+    record { fits = rw (c .nearest .ensures, c .before .before .before .before .before .before .frame .ensures) (lt-of-lt-of-le (nearest-lt _ (centersOf (l .shape .bits)) (k .centers-some)) (k .centers-most)) }
 
 returns : tie.Need-returns
 returns c =

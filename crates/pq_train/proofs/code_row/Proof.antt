@@ -1,28 +1,24 @@
 use borrow.Author.Needs.{needs}
-use Prim.Native.Nat.{ℕ, _+_, _-_, _≤_, _<_}
-use mathlib.Core.Path.{_≡_, _∙_}
+use Prim.Native.Nat.{_+_, _-_, _≤_, _<_}
+use mathlib.Core.Path.{_≡_}
 use mathlib.Core.List.{_++_}
 use native.Mathlib.Omega.{arith}
 use lib.ListN.{length, drop}
 use Rattle.lists.specs.Lists.{tab}
 use Rattle.lists.proofs.Tables.{tab-none, tab-step, tab-done}
 use Rattle.pq_train.specs.Inner.{codeBy}
-use Prim.Native.Nat.{ℕ, suc, _+_, _*_, _-_, _≤_, _<_}
-use mathlib.Core.Path.{_≡_, refl, sym, _∙_, ap}
+use Prim.Native.Nat.{_+_, _-_, _≤_, _<_}
+use mathlib.Core.Path.{_≡_}
 use native.Mathlib.Omega.{arith}
-use native.Mathlib.Numerals.{add-one}
-use lib.ListN.{length, getD, drop, take}
+use lib.ListN.{length, drop}
 use Rattle.pq_train.proofs.code_row.Statement.{statement}
 use Rattle.pq_train.proofs.code_row.Tie as tie
-use Rattle.pq_train.proofs.code_row.Reads as reads
-use Rattle.pq_train.proofs.code_row.Lts as lts
-use Rattle.pq_train.proofs.code_of.Reads as code-of-reads
 
 abbrev Inv-loop : tie.InvT-loop
-Inv-loop l x center subs codes₀ s₀ s-end codes s = (s ≤ l .nsub) × (length codes ≡ length codes₀) × (codes ≡ tab (codeBy l x center subs) s ++ drop s codes₀)
+Inv-loop l x center subs codes₀ s₀ s-end codes s = (s ≤ l .shape .nsub) × (length codes ≡ length codes₀) × (codes ≡ tab (codeBy l x center subs) s ++ drop s codes₀)
 
 abbrev μ-loop : tie.MeasureT-loop
-μ-loop l x center subs codes₀ s₀ s-end codes s = l .nsub - s
+μ-loop l x center subs codes₀ s₀ s-end codes s = l .shape .nsub - s
 
 loop-holds : tie.Need-loop-holds Inv-loop μ-loop
 loop-holds c = (search needs, search needs, tab-none _ _)
@@ -35,21 +31,12 @@ slice-write-codes c =
     let s = c .before .before .before .before .before .before .before in
     omega (arith, c .before .loop-test .taken, c .before .before .loop .inv .1, s .pre .1)
 
-add-s : tie.Need-add-s Inv-loop μ-loop
-add-s c = search needs
-
-loop-less : tie.Need-loop-less Inv-loop μ-loop
-loop-less c = search needs
-
 loop-again : tie.Need-loop-again Inv-loop μ-loop
 loop-again c =
     let s = c .before .before .before .before .before .before .before in
     let i = c .before .before .loop in
     let h : i .s < length (s .args .codes .now) = omega (arith, c .before .loop-test .taken, s .pre .1) in
     (search needs, search needs, tab-step _ (i .s) _ _ _ 0 h (i .inv .2) (c .code-of .ensures))
-
-same-length : tie.Need-same-length Inv-loop μ-loop
-same-length c = search needs
 
 returns : tie.Need-returns Inv-loop μ-loop
 returns c = tab-done _ _ _ _ _ (c .before .loop .inv .2) (search needs) (search needs) (search needs)
@@ -63,8 +50,8 @@ code-row-spec =
     loop-holds
     code-of-requires
     slice-write-codes
-    add-s
-    loop-less
+    (λ c. search needs)
+    (λ c. search needs)
     loop-again
-    same-length
+    (λ c. search needs)
     returns)

@@ -1,16 +1,10 @@
 use borrow.Author.Needs.{needs}
-use Prim.Native.Nat.{_+_, _*_, _-_}
-use mathlib.Core.Path.{_≡_, sym, _∙_, ap}
 use native.Mathlib.Nat.{add-sub-cancel-left}
 use native.Mathlib.Omega.{arith}
-use lib.ListN.{length, length-take, length-drop}
+use lib.ListN.{length-take, length-drop}
 use Rattle.lists.specs.Lists.{putPart}
 use Rattle.pq_train.proofs.fill_row.Statement.{statement}
 use Rattle.pq_train.proofs.fill_row.Tie as tie
-use Rattle.pq_train.proofs.fill_row.Reads as reads
-use Rattle.pq_train.proofs.fill_row.Lts as lts
-use Rattle.lists.proofs.stretch.Reads as stretch-reads
-use Rattle.pq_train.proofs.code_row.Reads as code-row-reads
 
 stretch-requires : tie.Need-stretch-requires
 stretch-requires c κs = c .before .before .before .before .pre .1
@@ -21,22 +15,10 @@ mul-at c = record { fits = omega (arith, c .before .before .before .before .befo
 add-e : tie.Need-add-e
 add-e c = record { fits = omega (arith, c .before .before .before .before .before .before .before .pre .2) }
 
-sub-code-row : tie.Need-sub-code-row
-sub-code-row c = search needs
-
-part-code-row-start : tie.Need-part-code-row-start
-part-code-row-start c = search needs
-
-part-code-row-end : tie.Need-part-code-row-end
-part-code-row-end c = search needs
-
 code-row-requires : tie.Need-code-row-requires
 code-row-requires c κs =
     let s = c .before .before .before .before .before .before .before .before in
     (rw (c .before .before .before .stretch .ensures .is) (s .pre .0), rw (add-sub-cancel-left, length-take, length-drop) (omega (arith, s .pre .2)))
-
-same-length : tie.Need-same-length
-same-length c = search needs
 
 returns : tie.Need-returns
 unfolding putPart
@@ -49,9 +31,9 @@ fill-row-spec =
     stretch-requires
     mul-at
     add-e
-    sub-code-row
-    part-code-row-start
-    part-code-row-end
+    (λ c. search needs)
+    (λ c. search needs)
+    (λ c. search needs)
     code-row-requires
-    same-length
+    (λ c. search needs)
     returns)

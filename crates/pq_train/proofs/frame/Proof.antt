@@ -1,28 +1,22 @@
-use borrow.Author.Needs.{needs}
 use native.Mathlib.Nat.{le-of-lt}
 use Rattle.pq_params.proofs.Bounds.{plain-bounds}
 use Rattle.pq_train.proofs.frame.Statement.{statement}
 use Rattle.pq_train.proofs.frame.Tie as tie
-use Rattle.pq_train.proofs.frame.Reads as reads
-use Rattle.pq_train.proofs.frame.Lts as lts
-use Rattle.pq_params.proofs.centers.Reads as centers-reads
-use Rattle.pq_params.proofs.range_begin.Reads as range-begin-reads
-use Rattle.pq_params.proofs.range_width.Reads as range-width-reads
 
 range-begin-requires : tie.Need-range-begin-requires
 range-begin-requires c κs =
     let l = c .args .l in
-    (plain-bounds (l .d) (l .nsub) (l .bits) (c .pre .0) .range, le-of-lt (c .pre .1))
+    (plain-bounds (l .shape) (c .pre .0) .range, le-of-lt (c .pre .1))
 
 range-width-requires : tie.Need-range-width-requires
 range-width-requires c κs =
     let l = c .before .args .l in
-    plain-bounds (l .d) (l .nsub) (l .bits) (c .before .pre .0) .range
+    plain-bounds (l .shape) (c .before .pre .0) .range
 
 centers-requires : tie.Need-centers-requires
 centers-requires c κs =
     let l = c .before .before .args .l in
-    plain-bounds (l .d) (l .nsub) (l .bits) (c .before .before .pre .0) .bits-most
+    plain-bounds (l .shape) (c .before .before .pre .0) .bits-most
 
 returns : tie.Need-returns
 returns c = rw (c .before .before .range-begin .ensures, c .before .range-width .ensures, c .centers .ensures)

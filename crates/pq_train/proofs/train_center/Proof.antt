@@ -8,39 +8,34 @@ use Rattle.lists.specs.Lists.{join}
 use Rattle.lists.proofs.Joins.{join-none, join-step, join-done}
 use Rattle.pq_params.specs.Bounds.{centersOf}
 use Rattle.pq_params.specs.Ranges.{beginOf, widthOf}
-use Rattle.pq_params.proofs.Bounds.{plain-bounds, range-bounds}
-use Rattle.kmeans.specs.Splits.{Drawn}
-use Rattle.kmeans.proofs.Laws.{told-not-done}
-use Rattle.kmeans.proofs.Splitting.{train-drawn, train-sized}
-use Rattle.pq_train.specs.declared.Stage.the-variants.{Sub}
-use Rattle.pq_train.specs.declared.Trained.the-variants.{Done}
-use Rattle.pq_train.specs.Answers.{staged, drawsUsed}
+use Rattle.pq_params.proofs.Numbers.{numbers}
+use Rattle.kmeans_split.specs.SplitFacts.{Drawn}
+use Rattle.kmeans_split.proofs.Runs.{told-not-done}
+use Rattle.kmeans.proofs.Reached.{train-drawn, train-sized}
+use Rattle.answers.specs.declared.Stage.the-variants.{Sub}
+use Rattle.answers.specs.declared.Trained.the-variants.{Done}
+use Rattle.answers.specs.Answers.{staged, drawsUsed}
 use Rattle.pq_train.specs.Training.{reached, centersAt, taskOf, subCenters}
 use Rattle.pq_train.specs.Inner.{listedOf}
 use Rattle.pq_train.proofs.Laws.{reached-step, reached-refused, centers-begin, centers-reached, nothing-made}
-use Prim.Native.Nat.{ℕ, suc, _+_, _*_, _-_, _≤_, _<_}
+use Prim.Native.Nat.{ℕ, _+_, _*_, _-_, _≤_}
 use mathlib.Core.Path.{_≡_, refl, sym, _∙_, ap}
 use native.Mathlib.Omega.{arith}
-use native.Mathlib.Numerals.{add-one}
-use lib.ListN.{length, getD, drop, take}
+use lib.ListN.{length, drop}
 use Rattle.pq_train.proofs.train_center.Statement.{statement}
 use Rattle.pq_train.proofs.train_center.Tie as tie
-use Rattle.pq_train.proofs.train_center.Reads as reads
-use Rattle.pq_train.proofs.train_center.Lts as lts
-use Rattle.pq_train.proofs.staged.Reads as staged-reads
-use Rattle.pq_train.proofs.train_sub.Reads as train-sub-reads
 
 abbrev Inv-loop : tie.InvT-loop
 Inv-loop l rows members center draws start subs₀ assigned₀ used₀ s₀ s-end subs assigned used s =
-    (s ≤ l .nsub)
+    (s ≤ l .shape .nsub)
     × (length subs ≡ length subs₀)
     × (length assigned ≡ length assigned₀)
     × (used ≤ length draws)
     × (reached (listedOf l rows members center draws start) s ≡ Done used)
-    × (subs ≡ join (centersAt (listedOf l rows members center draws start)) s ++ drop (centersOf (l .bits) * beginOf (l .d) (l .nsub) s) subs₀)
+    × (subs ≡ join (centersAt (listedOf l rows members center draws start)) s ++ drop (centersOf (l .shape .bits) * beginOf (l .shape .d) (l .shape .nsub) s) subs₀)
 
 abbrev μ-loop : tie.MeasureT-loop
-μ-loop l rows members center draws start subs₀ assigned₀ used₀ s₀ s-end subs assigned used s = l .nsub - s
+μ-loop l rows members center draws start subs₀ assigned₀ used₀ s₀ s-end subs assigned used s = l .shape .nsub - s
 
 loop-holds : tie.Need-loop-holds Inv-loop μ-loop
 unfolding reached
@@ -48,7 +43,7 @@ loop-holds c =
     let p = c .before .before .before .before .before .before in
     let a = p .args in
     let l = listedOf (a .l) (a .rows .now) (a .members .now) (a .center .now) (a .draws .now) (a .start) in
-    (search needs, refl, refl, p .pre .1 .drawn, refl, join-none (centersAt l) (λ (s : ℕ). centersOf (a .l .bits) * beginOf (a .l .d) (a .l .nsub) s) (centers-begin l) (a .subs .now))
+    (search needs, refl, refl, p .pre .1 .drawn, refl, join-none (centersAt l) (λ (s : ℕ). centersOf (a .l .shape .bits) * beginOf (a .l .shape .d) (a .l .shape .nsub) s) (centers-begin l) (a .subs .now))
 
 train-sub-requires : tie.Need-train-sub-requires Inv-loop μ-loop
 train-sub-requires c κs =
@@ -57,20 +52,10 @@ train-sub-requires c κs =
     let o = p .pre .1 in
     (p .pre .0, (record { subs-long = i .1 ∙ o .subs-long; assigned-long = i .2 ∙ o .assigned-long; drawn = i .3 }, c .before .before .loop-test .taken))
 
-enum-known-c : tie.Need-enum-known-c Inv-loop μ-loop
-enum-known-c c = search needs
-
-staged-requires : tie.Need-staged-requires Inv-loop μ-loop
-staged-requires c κs =
+cast-t20 : tie.Need-cast-t20 Inv-loop μ-loop
+cast-t20 c =
     let p = c .before .before .before .before .before .before .before .before .before .before .before .before .before .before .before .before in
-    let l = p .args .l in
-    omega (arith, c .before .before .before .before .before .before .before .before .loop-test .taken, range-bounds (l .d) (l .nsub) (plain-bounds (l .d) (l .nsub) (l .bits) (p .pre .0 .good) .range) .nsub-most)
-
-same-length : tie.Need-same-length Inv-loop μ-loop
-same-length c = search needs
-
-same-length-2 : tie.Need-same-length-2 Inv-loop μ-loop
-same-length-2 c = search needs
+    omega (arith, c .before .before .before .before .before .before .before .before .loop-test .taken, numbers (p .args .l .shape) (p .pre .0 .good) .nsub-most)
 
 returns : tie.Need-returns Inv-loop μ-loop
 returns c =
@@ -79,17 +64,16 @@ returns c =
     let l = listedOf (a .l) (a .rows .now) (a .members .now) (a .center .now) (a .draws .now) (a .start) in
     let v = c .before .before .before .before .before .before .train-sub in
     let n = told-not-done (v .result) (c .before .match .keys2) in
-    let e = c .staged .ensures in
+    let e = c .at-stage .ensures in
     record {
-      said = e ∙ reached-refused l (i .s) (a .l .nsub) (i .used) (v .result) (i .inv .4) (v .ensures .said) n (c .before .before .before .before .before .before .before .before .before .loop-test .taken);
-      made = nothing-made (Sub (a .l .cell) (i .s)) (v .result) (c .staged .result) e n;
+      said = e ∙ reached-refused l (i .s) (a .l .shape .nsub) (i .used) (v .result) (i .inv .4) (v .ensures .said) n (c .before .before .before .before .before .before .before .before .before .loop-test .taken);
+      made = nothing-made (Sub (a .l .cell) (i .s)) (v .result) (c .at-stage .result) e n;
     }
 
 add-s : tie.Need-add-s Inv-loop μ-loop
-add-s c = search needs
-
-loop-less : tie.Need-loop-less Inv-loop μ-loop
-loop-less c = search needs
+add-s c =
+    let p = c .before .before .before .before .before .before .before .before .before .before .before .before .before .before .before .before .before .before in
+    omega (arith, c .before .before .before .before .before .before .before .before .before .before .loop-test .taken, numbers (p .args .l .shape) (p .pre .0 .good) .nsub-most)
 
 loop-again : tie.Need-loop-again Inv-loop μ-loop
 loop-again c =
@@ -105,14 +89,8 @@ loop-again c =
       search needs,
       subst (Drawn (i .used) (length (a .draws .now))) (sym (k .said) ∙ g) (train-drawn (taskOf l (i .s)) (i .used) (i .inv .3)) .1,
       reached-step l (i .s) (i .used) (v .result) (i .inv .4) (k .said) ∙ ap (staged (Sub (a .l .cell) (i .s))) g,
-      k .placed ∙ join-step (centersAt l) (λ (s : ℕ). centersOf (a .l .bits) * beginOf (a .l .d) (a .l .nsub) s) (centers-begin l) (i .s) (centersOf (a .l .bits) * widthOf (a .l .d) (a .l .nsub) (i .s)) (a .subs .now) (i .subs) _ (i .inv .5) (centers-reached l (i .s) (i .used) (i .inv .4)) (train-sized (taskOf l (i .s)) (drawsUsed (reached l (i .s)))),
+      k .placed ∙ join-step (centersAt l) (λ (s : ℕ). centersOf (a .l .shape .bits) * beginOf (a .l .shape .d) (a .l .shape .nsub) s) (centers-begin l) (i .s) (centersOf (a .l .shape .bits) * widthOf (a .l .shape .d) (a .l .shape .nsub) (i .s)) (a .subs .now) (i .subs) _ (i .inv .5) (centers-reached l (i .s) (i .used) (i .inv .4)) (train-sized (taskOf l (i .s)) (drawsUsed (reached l (i .s)))),
     )
-
-same-length-3 : tie.Need-same-length-3 Inv-loop μ-loop
-same-length-3 c = search needs
-
-same-length-4 : tie.Need-same-length-4 Inv-loop μ-loop
-same-length-4 c = search needs
 
 returns-2 : tie.Need-returns-2 Inv-loop μ-loop
 unfolding subCenters
@@ -121,10 +99,10 @@ returns-2 c =
     let a = p .args in
     let i = c .before .loop in
     let l = listedOf (a .l) (a .rows .now) (a .members .now) (a .center .now) (a .draws .now) (a .start) in
-    let e : i .s ≡ a .l .nsub = omega arith in
+    let e : i .s ≡ a .l .shape .nsub = omega arith in
     record {
       said = sym (rw e at (i .inv .4));
-      made = λ u f. join-done (centersAt l) (λ (s : ℕ). centersOf (a .l .bits) * beginOf (a .l .d) (a .l .nsub) s) (centers-begin l) (i .s) (a .l .nsub) (a .subs .now) (i .subs) (i .inv .5) e (omega (arith, p .pre .1 .subs-long));
+      made = λ u f. join-done (centersAt l) (λ (s : ℕ). centersOf (a .l .shape .bits) * beginOf (a .l .shape .d) (a .l .shape .nsub) s) (centers-begin l) (i .s) (a .l .shape .nsub) (a .subs .now) (i .subs) (i .inv .5) e (omega (arith, p .pre .1 .subs-long));
     }
 
 pub train-center-spec : {M : Type 1} → statement M
@@ -135,14 +113,15 @@ train-center-spec =
     μ-loop
     loop-holds
     train-sub-requires
-    enum-known-c
-    staged-requires
-    same-length
-    same-length-2
+    (λ c. search needs)
+    cast-t20
+    (λ c κs. search needs)
+    (λ c. search needs)
+    (λ c. search needs)
     returns
     add-s
-    loop-less
+    (λ c. search needs)
     loop-again
-    same-length-3
-    same-length-4
+    (λ c. search needs)
+    (λ c. search needs)
     returns-2)

@@ -7,29 +7,6 @@ use Rattle.pq_train.specs.Inner.{listedOf}
 use Rattle.pq_train.proofs.Laws.{told-refusal, list-done, list-refused}
 use Rattle.pq_train.proofs.train_list.Statement.{statement}
 use Rattle.pq_train.proofs.train_list.Tie as tie
-use Rattle.pq_train.proofs.train_list.Reads as reads
-use Rattle.pq_train.proofs.train_list.Lts as lts
-use Rattle.lists.proofs.fill_floats.Reads as fill-floats-reads
-use Rattle.lists.proofs.fill_numbers.Reads as fill-numbers-reads
-use Rattle.pq_train.proofs.train_center.Reads as train-center-reads
-
-train-center-requires : tie.Need-train-center-requires
-train-center-requires c κs = search needs
-
-fill-numbers-requires : tie.Need-fill-numbers-requires
-fill-numbers-requires c κs = search needs
-
-enum-known-t : tie.Need-enum-known-t
-enum-known-t c = search needs
-
-fill-floats-requires : tie.Need-fill-floats-requires
-fill-floats-requires c κs = search needs
-
-same-length : tie.Need-same-length
-same-length c = search needs
-
-same-length-2 : tie.Need-same-length-2
-same-length-2 c = search needs
 
 returns : tie.Need-returns
 returns c =
@@ -41,12 +18,6 @@ returns c =
     let m : length (v .last .1 .1 .1 .1 .1 .1 .0) ≡ length (a .subs .now) = search needs in
     list-refused l (length (a .subs .now)) (v .result) _ _ _ (v .ensures) (told-refusal (v .result) (c .before .before .before .before .match .keys2))
     (c .before .before .fill-floats .ensures ∙ ap (fill zero32) m) (c .before .before .before .before .before .before .before .fill-numbers .ensures ∙ ap (fill 0) (n ∙ s .pre .1 .assigned-long))
-
-same-length-3 : tie.Need-same-length-3
-same-length-3 c = search needs
-
-same-length-4 : tie.Need-same-length-4
-same-length-4 c = search needs
 
 returns-2 : tie.Need-returns-2
 returns-2 c =
@@ -61,13 +32,13 @@ pub train-list-spec : {M : Type 1} → statement M
 train-list-spec =
     tie.close
     (tie.spec
-    train-center-requires
-    fill-numbers-requires
-    enum-known-t
-    fill-floats-requires
-    same-length
-    same-length-2
+    (λ c κs. search needs)
+    (λ c κs. search needs)
+    (λ c. search needs)
+    (λ c κs. search needs)
+    (λ c. search needs)
+    (λ c. search needs)
     returns
-    same-length-3
-    same-length-4
+    (λ c. search needs)
+    (λ c. search needs)
     returns-2)

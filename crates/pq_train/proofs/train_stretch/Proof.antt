@@ -1,22 +1,14 @@
 use borrow.Author.Needs.{needs}
-use Prim.Native.Nat.{ℕ}
 use mathlib.Core.Path.{_≡_, sym, _∙_, ap}
 use lib.ListN.{length}
 use Rattle.lists.specs.Lists.{part}
 use Rattle.lists.proofs.Tables.{take-fresh, length-tab}
-use Rattle.kmeans.specs.Kmeans.{Run}
+use Rattle.kmeans_split.specs.Run.{Run}
 use Rattle.pq_train.proofs.train_stretch.Statement.{statement}
 use Rattle.pq_train.proofs.train_stretch.Tie as tie
-use Rattle.pq_train.proofs.train_stretch.Reads as reads
-use Rattle.pq_train.proofs.train_stretch.Lts as lts
-use Rattle.kmeans.proofs.train.Reads as train-reads
-use Rattle.lists.proofs.part.Reads as part-reads
 
 part-requires : tie.Need-part-requires
 part-requires c κs = c .before .before .before .before .before .before .pre .0 .center-holds
-
-array-borrow-prefix-counts : tie.Need-array-borrow-prefix-counts
-array-borrow-prefix-counts c = search needs
 
 slice-aggregate-train : tie.Need-slice-aggregate-train
 slice-aggregate-train c =
@@ -39,18 +31,12 @@ train-requires c κs =
       ),
     )
 
-same-length : tie.Need-same-length
-same-length c = search needs
-
-same-length-2 : tie.Need-same-length-2
-same-length-2 c = search needs
-
 returns : tie.Need-returns
 returns c =
     let s = c .before .before .before .before .before .before .before .before .before .before .before .before .before .before .before .before in
     let a = s .args in
     let v = c .before .before .before .before .before .train in
-    let e = rw (c .before .before .before .before .before .before .before .before .before .part .ensures .is) at (v .ensures) in
+    let e = rw (c .before .before .before .before .before .before .before .before .before .part .ensures .is) at (v .ensures .run) in
     let l : length (v .last .1 .1 .1 .1 .1 .1 .1 .0) ≡ length (a .centers .now) = search needs in
     record { said = ap (λ (r : Run). r .answer) e; made = ap (λ (r : Run). r .centers) e; long = l ∙ s .pre .1 .0 .0; chosen = ap (λ (r : Run). r .assigned) e }
 
@@ -59,9 +45,9 @@ train-stretch-spec =
     tie.close
     (tie.spec
     part-requires
-    array-borrow-prefix-counts
+    (λ c. search needs)
     slice-aggregate-train
     train-requires
-    same-length
-    same-length-2
+    (λ c. search needs)
+    (λ c. search needs)
     returns)

@@ -6,19 +6,12 @@ use Rattle.pq_params.specs.Ranges.{beginOf}
 use Rattle.pq_train.proofs.Laws.{stretch-within, begin-fits, frame-held, ran-sub}
 use Rattle.pq_train.proofs.train_sub.Statement.{statement}
 use Rattle.pq_train.proofs.train_sub.Tie as tie
-use Rattle.pq_train.proofs.train_sub.Reads as reads
-use Rattle.pq_train.proofs.train_sub.Lts as lts
-use Rattle.pq_train.proofs.frame.Reads as frame-reads
-use Rattle.pq_train.proofs.train_at.Reads as train-at-reads
-
-frame-requires : tie.Need-frame-requires
-frame-requires c κs = search needs
 
 mul-at : tie.Need-mul-at
 mul-at c =
     let s = c .before .before .before .before .before .before .before .before in
     let l = s .args .l in
-    let g : centersOf (l .bits) * beginOf (l .d) (l .nsub) (s .args .s) < 18446744073709551616 = omega (arith, begin-fits (s .pre .0) (s .args .s) (s .pre .1 .1)) in
+    let g : centersOf (l .shape .bits) * beginOf (l .shape .d) (l .shape .nsub) (s .args .s) < 18446744073709551616 = omega (arith, begin-fits (s .pre .0) (s .args .s) (s .pre .1 .1)) in
     record { fits = rw (c .before .frame .ensures) g }
 
 train-at-requires : tie.Need-train-at-requires
@@ -28,16 +21,10 @@ train-at-requires c κs =
     rw (c .before .before .before .frame .ensures) (
       frame-held (s .pre .0) (a .s) (s .pre .1 .1),
       (
-        (omega (arith, stretch-within (a .l .d) (a .l .nsub) (centersOf (a .l .bits)) (a .s) (s .pre .1 .1), s .pre .1 .0 .subs-long), s .pre .1 .0 .assigned-long, s .pre .0 .few-epochs, s .pre .1 .0 .drawn),
+        (omega (arith, stretch-within (a .l .shape .d) (a .l .shape .nsub) (centersOf (a .l .shape .bits)) (a .s) (s .pre .1 .1), s .pre .1 .0 .subs-long), s .pre .1 .0 .assigned-long, s .pre .0 .few-epochs, s .pre .1 .0 .drawn),
         s .pre .0 .in-range,
       ),
     )
-
-same-length : tie.Need-same-length
-same-length c = search needs
-
-same-length-2 : tie.Need-same-length-2
-same-length-2 c = search needs
 
 returns : tie.Need-returns
 returns c =
@@ -46,4 +33,4 @@ returns c =
 
 pub train-sub-spec : {M : Type 1} → statement M
 train-sub-spec =
-    tie.close (tie.spec frame-requires mul-at train-at-requires same-length same-length-2 returns)
+    tie.close (tie.spec (λ c κs. search needs) mul-at train-at-requires (λ c. search needs) (λ c. search needs) returns)

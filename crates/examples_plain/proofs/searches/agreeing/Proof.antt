@@ -9,57 +9,22 @@ Inv-loop t₀ i₀ t i = i ≤ 35
 abbrev μ-loop : tie.MeasureT-loop
 μ-loop t₀ i₀ t i = 35 - i
 
-loop-holds : tie.Need-loop-holds Inv-loop μ-loop
-loop-holds c = search needs
-
-given-requires : tie.Need-given-requires Inv-loop μ-loop
-given-requires c κs = search needs
-
-coded-requires : tie.Need-coded-requires Inv-loop μ-loop
-coded-requires c κs = search needs
-
-expected-requires : tie.Need-expected-requires Inv-loop μ-loop
-expected-requires c κs = search needs
-
-values-requires : tie.Need-values-requires Inv-loop μ-loop
-values-requires c κs = search needs
-
-sums-requires : tie.Need-sums-requires Inv-loop μ-loop
-sums-requires c κs = search needs
-
-agrees-requires : tie.Need-agrees-requires Inv-loop μ-loop
-agrees-requires c κs = search needs
-
-counted-requires : tie.Need-counted-requires Inv-loop μ-loop
-counted-requires c κs = search needs
-
-add-i : tie.Need-add-i Inv-loop μ-loop
-add-i c = search needs
-
-loop-less : tie.Need-loop-less Inv-loop μ-loop
-loop-less c = search needs
-
-loop-again : tie.Need-loop-again Inv-loop μ-loop
-loop-again c = search needs
-
-returns : tie.Need-returns Inv-loop μ-loop
-returns c = search needs
-
 pub agreeing-spec : {M : Type 1} → statement M
 agreeing-spec =
     tie.close
     (tie.spec
     Inv-loop
     μ-loop
-    loop-holds
-    given-requires
-    coded-requires
-    expected-requires
-    values-requires
-    sums-requires
-    agrees-requires
-    counted-requires
-    add-i
-    loop-less
-    loop-again
-    returns)
+    (λ c. search needs)
+    (λ c κs. search needs)
+    (λ c κs. search needs)
+    (λ c κs. search needs)
+    (λ c κs. search needs)
+    (λ c κs. search needs)
+    (λ c κs. search needs)
+    (λ c κs. search needs)
+    (λ c κs. search needs)
+    (λ c. search needs)
+    (λ c. search needs)
+    (λ c. search needs)
+    (λ c. search needs))

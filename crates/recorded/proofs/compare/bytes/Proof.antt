@@ -1,47 +1,31 @@
 use borrow.Author.Needs.{needs}
-use Rattle.recorded.specs.Compare.{sameWord}
-use mathlib.Core.Bool.{true}
-use borrow.Author.Count.{below-more}
-use borrow.Author.Tests.{eq-eqb, ne-eqb}
-use Rattle.lists.proofs.Tests.{every-of, every-false}
-use Prim.Native.Nat.{ℕ, _-_, _≤_, _<_}
-use mathlib.Core.Path.{_≡_, sym}
-use native.Mathlib.Omega.{arith}
+use Rattle.recorded.specs.Compare.{asWord}
+use Rattle.recorded.specs.Layout.{paddedWords}
+use Rattle.lending.proofs.Laws.{every-done}
+use Rattle.lists.specs.Tests.{every}
+use Prim.Native.Nat.{_-_, _≤_}
+use mathlib.Core.Path.{_≡_, refl}
+use native.Mathlib.Numerals.{add-one}
+use lib.ListN.{length}
 use Rattle.recorded.proofs.compare.bytes.Statement.{statement}
 use Rattle.recorded.proofs.compare.bytes.Tie as tie
 
 abbrev Inv-loop : tie.InvT-loop
-Inv-loop body at s k₀ k-end k = (k ≤ k-end) × ((i : ℕ) → i < k → sameWord body at s i ≡ true)
+Inv-loop body at s same₀ k₀ k-end same k = (k ≤ paddedWords (length s)) × (same ≡ every (asWord body at s) k)
 
 abbrev μ-loop : tie.MeasureT-loop
-μ-loop body at s k₀ k-end k = k-end - k
-
-padded-requires : tie.Need-padded-requires Inv-loop μ-loop
-padded-requires c κs = search needs
+μ-loop body at s same₀ k₀ k-end same k = paddedWords (length s) - k
 
 loop-holds : tie.Need-loop-holds Inv-loop μ-loop
-loop-holds c = (search needs, λ i h. absurd (omega arith))
-
-word-requires : tie.Need-word-requires Inv-loop μ-loop
-word-requires c κs = search needs
-
-number-at-requires : tie.Need-number-at-requires Inv-loop μ-loop
-number-at-requires c κs = search needs
-
-returns : tie.Need-returns Inv-loop μ-loop
-returns c = sym (every-false _ _ (c .before .before .before .before .loop .k) (search needs) (ne-eqb _ _ (rw (c .before .before .word .ensures, c .before .number-at .ensures) at (c .if1 .taken))))
-
-add-k : tie.Need-add-k Inv-loop μ-loop
-add-k c = search needs
-
-loop-less : tie.Need-loop-less Inv-loop μ-loop
-loop-less c = search needs
+unfolding every
+loop-holds c = (search needs, refl)
 
 loop-again : tie.Need-loop-again Inv-loop μ-loop
-loop-again c = (search needs, below-more _ _ (c .before .before .before .before .loop .inv .1) (eq-eqb _ _ (rw (c .before .before .word .ensures, c .before .number-at .ensures) at (c .if1 .left))))
+unfolding every
+loop-again c = (search needs, rw add-one (cc))
 
-returns-2 : tie.Need-returns-2 Inv-loop μ-loop
-returns-2 c = sym (every-of _ _ (λ i h. c .before .loop .inv .1 i (omega arith)))
+returns : tie.Need-returns Inv-loop μ-loop
+returns c = every-done _ _ _ _ (c .before .loop .inv .1) (search needs) (search needs)
 
 pub bytes-spec : {M : Type 1} → statement M
 bytes-spec =
@@ -49,12 +33,11 @@ bytes-spec =
     (tie.spec
     Inv-loop
     μ-loop
-    padded-requires
+    (λ c κs. search needs)
     loop-holds
-    word-requires
-    number-at-requires
-    returns
-    add-k
-    loop-less
+    (λ c κs. search needs)
+    (λ c κs. search needs)
+    (λ c. search needs)
+    (λ c. search needs)
     loop-again
-    returns-2)
+    returns)

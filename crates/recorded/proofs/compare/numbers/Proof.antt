@@ -1,48 +1,30 @@
 use borrow.Author.Needs.{needs}
-use Rattle.recorded.specs.Compare.{sameNumber}
-use mathlib.Core.Bool.{true}
-use borrow.Author.Count.{below-more}
-use borrow.Author.Tests.{eq-eqb, ne-eqb}
-use Rattle.lists.proofs.Tests.{every-of, every-false}
-use Prim.Native.Nat.{ℕ, _-_, _≤_, _<_}
-use mathlib.Core.Path.{_≡_, sym}
-use native.Mathlib.Omega.{arith}
+use Rattle.recorded.specs.Compare.{asNumber}
+use Rattle.lending.proofs.Laws.{every-done}
+use Rattle.lists.specs.Tests.{every}
+use Prim.Native.Nat.{_-_, _≤_}
+use mathlib.Core.Path.{_≡_, refl}
+use native.Mathlib.Numerals.{add-one}
 use lib.ListN.{length}
 use Rattle.recorded.proofs.compare.numbers.Statement.{statement}
 use Rattle.recorded.proofs.compare.numbers.Tie as tie
 
 abbrev Inv-loop : tie.InvT-loop
-Inv-loop body at s j₀ j-end j = (j ≤ length s) × ((k : ℕ) → k < j → sameNumber body at s k ≡ true)
+Inv-loop body at s same₀ j₀ j-end same j = (j ≤ length s) × (same ≡ every (asNumber body at s) j)
 
 abbrev μ-loop : tie.MeasureT-loop
-μ-loop body at s j₀ j-end j = length s - j
+μ-loop body at s same₀ j₀ j-end same j = length s - j
 
 loop-holds : tie.Need-loop-holds Inv-loop μ-loop
-loop-holds c = (search needs, λ i h. absurd (omega arith))
-
-mul-if1 : tie.Need-mul-if1 Inv-loop μ-loop
-mul-if1 c = search needs
-
-shared-slice-read-if1 : tie.Need-shared-slice-read-if1 Inv-loop μ-loop
-shared-slice-read-if1 c = search needs
-
-number-at-requires : tie.Need-number-at-requires Inv-loop μ-loop
-number-at-requires c κs = search needs
-
-returns : tie.Need-returns Inv-loop μ-loop
-returns c = sym (every-false _ _ (c .before .before .before .before .loop .j) (search needs) (ne-eqb _ _ (rw (c .before .number-at .ensures) at (c .if1 .taken))))
-
-add-j : tie.Need-add-j Inv-loop μ-loop
-add-j c = search needs
-
-loop-less : tie.Need-loop-less Inv-loop μ-loop
-loop-less c = search needs
+unfolding every
+loop-holds c = (search needs, refl)
 
 loop-again : tie.Need-loop-again Inv-loop μ-loop
-loop-again c = (search needs, below-more _ _ (c .before .before .before .before .loop .inv .1) (eq-eqb _ _ (rw (c .before .number-at .ensures) at (c .if1 .left))))
+unfolding every
+loop-again c = (search needs, rw add-one (cc))
 
-returns-2 : tie.Need-returns-2 Inv-loop μ-loop
-returns-2 c = sym (every-of _ _ (λ i h. c .before .loop .inv .1 i (omega arith)))
+returns : tie.Need-returns Inv-loop μ-loop
+returns c = every-done _ _ _ _ (c .before .loop .inv .1) (search needs) (search needs)
 
 pub numbers-spec : {M : Type 1} → statement M
 numbers-spec =
@@ -51,11 +33,10 @@ numbers-spec =
     Inv-loop
     μ-loop
     loop-holds
-    mul-if1
-    shared-slice-read-if1
-    number-at-requires
-    returns
-    add-j
-    loop-less
+    (λ c. search needs)
+    (λ c. search needs)
+    (λ c κs. search needs)
+    (λ c. search needs)
+    (λ c. search needs)
     loop-again
-    returns-2)
+    returns)

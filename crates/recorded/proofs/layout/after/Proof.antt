@@ -17,12 +17,9 @@ returns-2 : tie.Need-returns-2
 unfolding placeAfter
 returns-2 c = sym (cond-right (ltb (c .before .before .args .at) far) (ltb (c .before .before .args .words) far) (c .before .before .args .at + c .before .before .args .words) far (le-ltb _ _ (c .if2 .taken)))
 
-add-result : tie.Need-add-result
-add-result c = search needs
-
 returns-3 : tie.Need-returns-3
 unfolding placeAfter
 returns-3 c = sym (cond-both _ _ _ _ (lt-ltb _ _ (c .before .if1 .left)) (lt-ltb _ _ (c .if2 .left)))
 
 pub after-spec : {M : Type 1} → statement M
-after-spec = tie.close (tie.spec returns returns-2 add-result returns-3)
+after-spec = tie.close (tie.spec returns returns-2 (λ c. search needs) returns-3)

@@ -5,14 +5,8 @@ use Rattle.recorded.proofs.Laws.{word-past}
 use Rattle.recorded.proofs.layout.word.Statement.{statement}
 use Rattle.recorded.proofs.layout.word.Tie as tie
 
-held-word-requires : tie.Need-held-word-requires
-held-word-requires c κs = search needs
-
-returns : tie.Need-returns
-returns c = search needs
-
 returns-2 : tie.Need-returns-2
 returns-2 c = sym (word-past _ _ (omega arith))
 
 pub word-spec : {M : Type 1} → statement M
-word-spec = tie.close (tie.spec held-word-requires returns returns-2)
+word-spec = tie.close (tie.spec (λ c κs. search needs) (λ c. search needs) returns-2)

@@ -1,19 +1,13 @@
 use borrow.Author.Needs.{needs}
 use borrow.Author.Count.{below-more}
-use borrow.Author.Tests.{not-true, not-false}
-use Rattle.kmeans.specs.Frame.{memberOf}
+use borrow.Author.Tests.{not-false}
+use Rattle.lists.specs.Lists.{memberOf}
 use Rattle.replay_kmeans.proofs.Laws.{never}
-use Prim.Native.Nat.{ℕ, suc, _+_, _*_, _-_, _≤_, _<_}
-use mathlib.Core.Path.{_≡_, refl, sym, _∙_, ap}
+use Prim.Native.Nat.{ℕ, _+_, _*_, _-_, _≤_, _<_}
 use native.Mathlib.Omega.{arith}
-use native.Mathlib.Numerals.{add-one}
-use lib.ListN.{length, getD, drop, take}
+use lib.ListN.{length}
 use Rattle.replay_kmeans.proofs.fits.are_held.Statement.{statement}
 use Rattle.replay_kmeans.proofs.fits.are_held.Tie as tie
-use Rattle.replay_kmeans.proofs.fits.are_held.Reads as reads
-use Rattle.replay_kmeans.proofs.fits.are_held.Lts as lts
-use Rattle.replay_kmeans.proofs.fits.is_held.Reads as is-held-reads
-use Rattle.replay_kmeans.proofs.fits.row_number.Reads as row-number-reads
 
 abbrev Inv-loop : tie.InvT-loop
 Inv-loop f rows members k₀ k-end k = (k ≤ f .n) × ((i : ℕ) → i < k → memberOf (f .listed) members i * f .d + f .d ≤ length rows)
@@ -27,17 +21,8 @@ loop-holds c = (search needs, λ i h. absurd (omega arith))
 row-number-requires : tie.Need-row-number-requires Inv-loop μ-loop
 row-number-requires c κs = λ e. let h = c .before .before .before .before .pre .1 e in search needs
 
-is-held-requires : tie.Need-is-held-requires Inv-loop μ-loop
-is-held-requires c κs = search needs
-
 returns : tie.Need-returns Inv-loop μ-loop
 returns c = never
-
-add-k : tie.Need-add-k Inv-loop μ-loop
-add-k c = search needs
-
-loop-less : tie.Need-loop-less Inv-loop μ-loop
-loop-less c = search needs
 
 loop-again : tie.Need-loop-again Inv-loop μ-loop
 loop-again c = (search needs, below-more _ _ (c .before .before .before .before .loop .inv .1) (rw (← c .before .before .row-number .ensures) (c .before .is-held .ensures (not-false _ (c .if1 .left)))))
@@ -53,9 +38,9 @@ are-held-spec =
     μ-loop
     loop-holds
     row-number-requires
-    is-held-requires
+    (λ c κs. search needs)
     returns
-    add-k
-    loop-less
+    (λ c. search needs)
+    (λ c. search needs)
     loop-again
     returns-2)

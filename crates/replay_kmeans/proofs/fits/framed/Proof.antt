@@ -4,23 +4,12 @@ use borrow.Author.Tests.{not-false}
 use Rattle.replay_kmeans.proofs.Laws.{never}
 use Rattle.replay_kmeans.proofs.fits.framed.Statement.{statement}
 use Rattle.replay_kmeans.proofs.fits.framed.Tie as tie
-use Rattle.replay_kmeans.proofs.fits.framed.Reads as reads
-use Rattle.replay_kmeans.proofs.fits.framed.Lts as lts
-use Rattle.replay_kmeans.proofs.fits.are_held.Reads as are-held-reads
-use Rattle.replay_kmeans.proofs.fits.in_bounds.Reads as in-bounds-reads
-use Rattle.replay_kmeans.proofs.fits.is_listed.Reads as is-listed-reads
-
-in-bounds-requires : tie.Need-in-bounds-requires
-in-bounds-requires c κs = search needs
 
 returns : tie.Need-returns
 returns c = never
 
 returns-2 : tie.Need-returns-2
 returns-2 c = never
-
-is-listed-requires : tie.Need-is-listed-requires
-is-listed-requires c κs = search needs
 
 returns-3 : tie.Need-returns-3
 returns-3 c = never
@@ -47,10 +36,10 @@ pub framed-spec : {M : Type 1} → statement M
 framed-spec =
     tie.close
     (tie.spec
-    in-bounds-requires
+    (λ c κs. search needs)
     returns
     returns-2
-    is-listed-requires
+    (λ c κs. search needs)
     returns-3
     are-held-requires
     returns-4)

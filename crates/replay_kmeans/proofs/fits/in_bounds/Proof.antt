@@ -1,13 +1,9 @@
 use borrow.Author.Needs.{needs}
 use Prim.Native.Nat.{_≤_, _-_}
 use borrow.Author.Tests.{leb-true}
-use native.Mathlib.Omega.{arith}
-use mathlib.Core.Path.{_≡_, refl, sym, _∙_, ap}
-use Rattle.replay_kmeans.proofs.Laws.{never, row-product}
+use Rattle.replay_kmeans.proofs.Laws.{never}
 use Rattle.replay_kmeans.proofs.fits.in_bounds.Statement.{statement}
 use Rattle.replay_kmeans.proofs.fits.in_bounds.Tie as tie
-use Rattle.replay_kmeans.proofs.fits.in_bounds.Reads as reads
-use Rattle.replay_kmeans.proofs.fits.in_bounds.Lts as lts
 
 returns : tie.Need-returns
 returns c = never

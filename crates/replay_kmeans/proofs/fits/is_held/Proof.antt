@@ -4,8 +4,6 @@ use borrow.Author.Tests.{leb-true}
 use Rattle.replay_kmeans.proofs.Laws.{never, row-product}
 use Rattle.replay_kmeans.proofs.fits.is_held.Statement.{statement}
 use Rattle.replay_kmeans.proofs.fits.is_held.Tie as tie
-use Rattle.replay_kmeans.proofs.fits.is_held.Reads as reads
-use Rattle.replay_kmeans.proofs.fits.is_held.Lts as lts
 
 returns : tie.Need-returns
 returns c = never

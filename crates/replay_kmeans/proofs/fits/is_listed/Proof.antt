@@ -1,11 +1,8 @@
-use borrow.Author.Needs.{needs}
 use mathlib.Core.Path.{sym, _∙_}
 use borrow.Author.Tests.{leb-true}
 use Rattle.replay_kmeans.proofs.Laws.{never}
 use Rattle.replay_kmeans.proofs.fits.is_listed.Statement.{statement}
 use Rattle.replay_kmeans.proofs.fits.is_listed.Tie as tie
-use Rattle.replay_kmeans.proofs.fits.is_listed.Reads as reads
-use Rattle.replay_kmeans.proofs.fits.is_listed.Lts as lts
 
 returns : tie.Need-returns
 returns c = λ e t. leb-true _ _ e

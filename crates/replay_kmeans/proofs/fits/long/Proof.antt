@@ -3,12 +3,10 @@ use lib.ListN.{length}
 use borrow.Author.Tests.{eqb-true}
 use Rattle.replay_kmeans.proofs.Laws.{small-product}
 use native.Mathlib.Omega.{arith}
-use mathlib.Core.Path.{_≡_, refl, sym, _∙_, ap}
-use Rattle.replay_kmeans.proofs.Laws.{never, row-product}
+use mathlib.Core.Path.{_≡_}
+use Rattle.replay_kmeans.proofs.Laws.{never}
 use Rattle.replay_kmeans.proofs.fits.long.Statement.{statement}
 use Rattle.replay_kmeans.proofs.fits.long.Tie as tie
-use Rattle.replay_kmeans.proofs.fits.long.Reads as reads
-use Rattle.replay_kmeans.proofs.fits.long.Lts as lts
 
 returns : tie.Need-returns
 returns c = never

@@ -1,0 +1,3 @@
+pub mod Coarse
+pub mod Codes
+pub mod CellSlices

@@ -1,0 +1,4 @@
+pub mod Coarse
+pub mod Tied
+pub mod Tested
+pub mod Steps

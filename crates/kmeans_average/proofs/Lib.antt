@@ -1,0 +1,2 @@
+pub mod Averaging
+pub mod Finite

@@ -1,0 +1,4 @@
+pub mod Run
+pub mod Split
+pub mod SplitFacts
+pub mod SplitInner

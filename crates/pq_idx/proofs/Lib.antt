@@ -1,9 +1,0 @@
-pub mod Refusing
-pub mod TrainingLaws
-pub mod SearchingTables
-pub mod SearchingRows
-pub mod SearchingResults
-pub mod SearchingWalk
-pub mod SearchingCell
-pub mod SearchingOutcome
-pub mod TrainOutcome

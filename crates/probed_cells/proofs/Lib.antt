@@ -1,0 +1,3 @@
+pub mod ProbedLists
+pub mod ProbedCells
+pub mod ProbedWalk
