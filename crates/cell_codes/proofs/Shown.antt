@@ -2,7 +2,7 @@
 use Prim.Native.Nat.{ℕ, zero, suc, _+_, _≤_, _<_}
 use mathlib.Core.Path.{_≡_, refl, sym, _∙_, ap, ap₂}
 use mathlib.Core.Bool.{Bool, true, false, not, _&&_, true≢false}
-use mathlib.Core.List.{List, [], _∷_, _++_}
+use mathlib.Core.List.{List, [], _∷_, _++_, append-assoc, append-nil}
 use native.Mathlib.Numerals.{add-one}
 use native.Mathlib.Omega.{arith}
 use borrow.Author.Tests.{ne-eqb, eq-eqb}
@@ -26,6 +26,21 @@ all-more f xs x =
 pub and-true : (a : Bool) → a ≡ (a && true)
 and-true true = refl
 and-true false = refl
+
+and-assoc : (a b c : Bool) → ((a && b) && c) ≡ (a && (b && c))
+and-assoc true b c = refl
+and-assoc false b c = refl
+
+-- of two lists, one after the other
+pub all-join : (f : ℕ → Bool) (xs ys : List ℕ) → ofAll f (xs ++ ys) ≡ (ofAll f xs && ofAll f ys)
+unfolding every
+all-join f xs [] = ap (ofAll f) (append-nil xs) ∙ and-true (ofAll f xs)
+all-join f xs (y ∷ ys) =
+    ap (ofAll f) (sym (append-assoc xs (y ∷ []) ys))
+    ∙ all-join f (xs ++ (y ∷ [])) ys
+    ∙ ap (λ (b : Bool). b && ofAll f ys) (all-more f xs y)
+    ∙ and-assoc (ofAll f xs) (f y) (ofAll f ys)
+    ∙ ap (λ (b : Bool). ofAll f xs && b) (sym (all-join f (y ∷ []) ys))
 
 module _ (v : ℕ → Bool) (g : ℕ → ℕ) where
   -- by the last row: it is shown, or it is not

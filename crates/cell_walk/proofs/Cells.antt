@@ -33,7 +33,7 @@ use Rattle.cell_sums.specs.Sums.{sumAt, sumsFinite}
 use Rattle.cell_walk.specs.Candidates.{nothingShown, cellFinite, candidates}
 use Rattle.cell_walk.specs.Results.{Lent, lent, SearchOut, searchOut, askedOf, blank}
 use Rattle.cell_walk.specs.CellInner.{keptOf, tableAfter, cellDone, cellOutcome}
-use Rattle.cell_walk.specs.WalkInner.{candidateBy}
+use Rattle.cell_stretch.specs.StretchInner.{candidateBy}
 use Rattle.cell_walk.proofs.Walks.{finite-candidates}
 
 -- results that hold the first k of the candidates cs, in order, and blanks past them

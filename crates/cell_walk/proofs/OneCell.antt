@@ -37,7 +37,8 @@ use Rattle.cell_sums.specs.SumsInner.{tableTerm}
 use Rattle.cell_walk.specs.Candidates.{nothingShown, cellFinite, candidates}
 use Rattle.cell_walk.specs.Results.{lent, searchOut}
 use Rattle.cell_walk.specs.CellInner.{cellOf, keptOf, tableAfter, cellOutcome}
-use Rattle.cell_walk.specs.WalkInner.{candidateBy, candidatesTo, finiteTo, sumsOf, Ready, Scanned}
+use Rattle.cell_walk.specs.WalkInner.{candidatesTo, finiteTo, Scanned}
+use Rattle.cell_stretch.specs.StretchInner.{candidateBy, sumsOf, Ready}
 
 -- ---- sums that agree at the shown rows
 

@@ -1,29 +1,33 @@
 -- Laws on the walk of a cell's rows: its start, a stretch that breaks it off, its end, and what its answer leaves.
-use Prim.Native.Nat.{ℕ, suc, _≤_, _<_}
+use Prim.Native.Nat.{ℕ, zero, suc, _+_, _-_, _≤_, _<_}
 use mathlib.Core.Path.{_≡_, refl, sym, _∙_, ap}
-use mathlib.Core.Bool.{Bool, true, false, true≢false}
-use mathlib.Core.List.{List, [], _∷_, map}
+use mathlib.Core.Bool.{Bool, true, false, _&&_, true≢false}
+use mathlib.Core.List.{List, [], _∷_, _++_, map, append-assoc, append-nil, map-append}
 use native.Mathlib.Omega.{arith}
-use native.Mathlib.Nat.{sub-zero}
-use lib.ListN.{length, getD, length-map}
+use native.Mathlib.Nat.{add-zero, add-suc, sub-zero}
+use lib.ListN.{length, getD, length-append, length-map}
 use lib.Ieee.{Float}
 use Rattle.lists.specs.Lists.{tab, fill}
 use Rattle.lists.specs.Tests.{keep, every}
-use Rattle.lists.proofs.Tests.{every-true}
+use Rattle.lists.proofs.Tests.{every-true, keep-append}
 use Rattle.metrics.specs.Distance.{zero32}
+use Rattle.neighbor.specs.declared.Candidate.{Candidate}
 use Rattle.neighbor.specs.Neighbor.{blankRow, resultRows, resultSums}
 use Rattle.neighbor.specs.Held.{FiniteSum, AllFinite, Held, Merged}
 use Rattle.neighbor.specs.Gathered.{Runs, runs, Gathered}
 use Rattle.neighbor.proofs.Held.{held-none}
 use Rattle.neighbor.proofs.Sorted.{all-cons}
 use Rattle.offers.specs.OffersInner.{offeredAll}
-use Rattle.offers.proofs.Offers.{OfferedAll, offered-all, offered-done}
+use Rattle.offers.proofs.Offers.{OfferedAll, offered-append, offered-all, offered-done}
 use Rattle.answers.specs.declared.Searched.{Searched}
 use Rattle.answers.specs.declared.Searched.the-variants.{Done, Refused}
 use Rattle.cell_table.specs.TablesInner.{finiteAt}
 use Rattle.cell_codes.specs.Codes.{ofAll}
-use Rattle.cell_codes.proofs.Shown.{few-kept, still-broken}
-use Rattle.cell_walk.specs.WalkInner.{shownTo, candidateBy, candidatesTo, finiteTo, staying, walkAnswer, Walked, Scanned, Blank}
+use Rattle.cell_codes.proofs.Shown.{all-join, few-kept, still-broken}
+use Rattle.cell_stretch.specs.declared.Step.{Step}
+use Rattle.cell_stretch.specs.declared.Step.the-variants.{Went, Refused as Stopped}
+use Rattle.cell_stretch.specs.StretchInner.{onwards, stretchOf, candidateBy, candidatesIn, finiteStretch, afterStretch, stepWith, Visited}
+use Rattle.cell_walk.specs.WalkInner.{shownTo, candidatesTo, finiteTo, staying, walkAnswer, Walked, Scanned, Blank}
 
 -- an empty batch holds no candidates
 pub gathered-start : (rows : List ℕ) (sums : List Float) (found : ℕ) (batchRows : List ℕ) (batchSums : List Float) → Held rows sums found → length batchSums ≡ length batchRows
@@ -37,6 +41,78 @@ finite-candidates f l e = go l (every-true (λ (i : ℕ). finiteAt f (getD l i 0
     go : (l : List ℕ) → ((i : ℕ) → i < length l → finiteAt f (getD l i 0) ≡ true) → AllFinite (map (candidateBy f) l)
     go [] h = λ i k. absurd (omega arith)
     go (m ∷ l) h = all-cons _ FiniteSum (candidateBy f m) (map (candidateBy f) l) (h 0 (omega arith)) (go l (λ i k. h (suc i) (omega arith)))
+
+-- ---- one stretch more
+
+tab-append : (g : ℕ → ℕ) (m n : ℕ) → tab g (m + n) ≡ tab g m ++ tab (onwards g m) n
+unfolding tab
+tab-append g m zero = rw add-zero (sym (append-nil (tab g m)))
+tab-append g m (suc n) = rw add-suc (ap (λ (t : List ℕ). t ++ (g (m + n) ∷ [])) (tab-append g m n) ∙ append-assoc (tab g m) (tab (onwards g m) n) (g (m + n) ∷ []))
+
+module _ (f : ℕ → Float) (v : ℕ → Bool) (g : ℕ → ℕ) (from to : ℕ) (h : from ≤ to) where
+  shown-join : shownTo v g to ≡ shownTo v g from ++ stretchOf v g from to
+  shown-join =
+      let e : to ≡ from + (to - from) = omega arith in
+      ap (shownTo v g) e ∙ ap (keep v) (tab-append g from (to - from)) ∙ keep-append v (tab g from) (tab (onwards g from) (to - from))
+
+  candidates-join : candidatesTo f v g to ≡ candidatesTo f v g from ++ candidatesIn f v g from to
+  candidates-join = ap (map (candidateBy f)) shown-join ∙ map-append (candidateBy f) (shownTo v g from) (stretchOf v g from to)
+
+  finite-join : finiteTo f v g to ≡ (finiteTo f v g from && finiteStretch f v g from to)
+  finite-join = ap (ofAll (finiteAt f)) shown-join ∙ all-join (finiteAt f) (shownTo v g from) (stretchOf v g from to)
+
+  and-false : (a b : Bool) → b ≡ false → (a && b) ≡ false
+  and-false true b e = e
+  and-false false b e = refl
+
+  module _ (s : Runs) (rows' : List ℕ) (sums' : List Float) (batchRows' : List ℕ) (batchSums' : List Float) (r : Step) (W : Visited f v g from to s rows' sums' batchRows' batchSums' r) where
+    -- a stretch that refuses
+    pub stretch-broken : (number : ℕ) → r ≡ Stopped number → (number ≡ 11) × (finiteTo f v g to ≡ false)
+    stretch-broken number e = go (finiteStretch f v g from to) refl
+      where
+        go : (b : Bool) → finiteStretch f v g from to ≡ b → (number ≡ 11) × (finiteTo f v g to ≡ false)
+        go true t =
+            let a : r ≡ stepWith true (afterStretch f v g from to s) (length (candidatesIn f v g from to)) = W .answer ∙ rw t in
+            let z : _≡_ {A = ℕ} 0 1 = cc in
+            absurd (omega arith)
+        go false t =
+            let a : r ≡ Stopped 11 = W .answer ∙ rw t in
+            (cc, finite-join ∙ and-false (finiteTo f v g from) (finiteStretch f v g from to) t)
+
+    -- one that goes on
+    pub record GoesOn (found waiting count : ℕ) : Type 0 where
+      pub passed : finiteTo f v g from ≡ true → finiteTo f v g to ≡ true
+      pub counted : length (candidatesTo f v g to) ≡ length (candidatesTo f v g from) + count
+      pub offered : (s₀ : Runs) → s ≡ offeredAll s₀ (candidatesTo f v g from) → runs rows' sums' found batchRows' batchSums' waiting ≡ offeredAll s₀ (candidatesTo f v g to)
+
+    pub stretch-went : (found waiting count : ℕ) → r ≡ Went found waiting count → GoesOn found waiting count
+    stretch-went found waiting count e = go (finiteStretch f v g from to) refl
+      where
+        cs : List Candidate
+        cs = candidatesIn f v g from to
+
+        go : (b : Bool) → finiteStretch f v g from to ≡ b → GoesOn found waiting count
+        go true t =
+            let a : r ≡ Went (offeredAll s cs .found) (offeredAll s cs .waiting) (length cs) = W .answer ∙ rw t in
+            let x : found ≡ offeredAll s cs .found = cc in
+            let y : waiting ≡ offeredAll s cs .waiting = cc in
+            let n : count ≡ length cs = cc in
+            let E : runs rows' sums' (offeredAll s cs .found) batchRows' batchSums' (offeredAll s cs .waiting) ≡ offeredAll s cs = rw t at (W .runs-are) in record {
+              passed = λ p. finite-join ∙ rw (p, t);
+              counted = ap length candidates-join ∙ length-append (candidatesTo f v g from) cs ∙ rw n;
+              offered = λ s₀ p.
+                  (λ i. runs rows' sums' (x i) batchRows' batchSums' (y i))
+                  ∙ E
+                  ∙ ap (λ (u : Runs). offeredAll u cs) p
+                  ∙ sym (offered-append s₀ (candidatesTo f v g from) cs)
+                  ∙ ap (offeredAll s₀) (sym candidates-join);
+            }
+        go false t =
+            let a : r ≡ Stopped 11 = W .answer ∙ rw t in
+            let z : _≡_ {A = ℕ} 0 1 = cc in
+            absurd (omega arith)
+
+-- ---- the walk
 
 module _ (f : ℕ → Float) (v : ℕ → Bool) (g : ℕ → ℕ) where
   -- of no rows

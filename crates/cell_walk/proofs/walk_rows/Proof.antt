@@ -1,4 +1,4 @@
--- `walk_rows`: the arrays have room for a batch and a stretch.
+-- `walk_rows`: the arrays have room for a batch.
 use borrow.Author.Needs.{needs}
 use native.Mathlib.Omega.{arith}
 use lib.ListN.{length-take}
@@ -13,8 +13,8 @@ slice-aggregate-walk-by-batch-2 c = simp length-take (omega (arith, c .before .b
 
 walk-by-batch-requires : tie.Need-walk-by-batch-requires
 walk-by-batch-requires c κs = (
-  (c .before .before .before .before .before .before .before .before .before .before .before .before .before .pre .0, c .before .before .before .before .before .before .before .before .before .before .before .before .before .pre .1),
-  record { batch-even = simp length-take; batch-room = simp length-take (omega (arith, c .before .before .before .before .before .before .batch-length .ensures .0)); picked-long = omega arith; sums-long = omega arith },
+  (c .before .before .before .before .before .before .before .before .before .before .before .pre .0, c .before .before .before .before .before .before .before .before .before .before .before .pre .1),
+  (simp length-take, simp length-take (omega (arith, c .before .before .before .before .batch-length .ensures .0))),
 )
 
 pub walk-rows-spec : {M : Type 1} → statement M
@@ -26,8 +26,6 @@ walk-rows-spec =
     slice-aggregate-walk-by-batch
     (λ c. search needs)
     slice-aggregate-walk-by-batch-2
-    (λ c. search needs)
-    (λ c. search needs)
     walk-by-batch-requires
     (λ c. search needs)
     (λ c. search needs)

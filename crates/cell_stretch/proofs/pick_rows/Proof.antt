@@ -4,19 +4,18 @@ use borrow.Author.Needs.{needs}
 use lib.ListN.{length, take}
 use mathlib.Core.Path.{_≡_, refl, _∙_, ap}
 use native.Mathlib.Omega.{arith}
-use mathlib.Core.List.{_++_}
 use mathlib.Core.Bool.{Bool, cond}
 use lib.ListN.{length-set}
 use Rattle.lists.specs.Lists.{memberOf}
 use Rattle.cell_codes.specs.Codes.{visible}
-use Rattle.cell_walk.specs.WalkInner.{shownTo}
-use Rattle.cell_walk.proofs.Picks.{one-most, pick-step, pick-none}
-use Rattle.cell_walk.proofs.pick_rows.Statement.{statement}
-use Rattle.cell_walk.proofs.pick_rows.Tie as tie
+use Rattle.cell_stretch.specs.StretchInner.{stretchOf}
+use Rattle.cell_stretch.proofs.Picks.{one-most, pick-step, pick-none}
+use Rattle.cell_stretch.proofs.pick_rows.Statement.{statement}
+use Rattle.cell_stretch.proofs.pick_rows.Tie as tie
 
 abbrev Inv-loop : tie.InvT-loop
 Inv-loop z mask members from to picked₀ n₀ i₀ picked n i =
-    (from ≤ i) × (i ≤ to) × (n + from ≤ i) × (length picked ≡ length picked₀) × (shownTo (visible mask) (memberOf (z .celled) members) i ≡ shownTo (visible mask) (memberOf (z .celled) members) from ++ take n picked)
+    (from ≤ i) × (i ≤ to) × (n + from ≤ i) × (length picked ≡ length picked₀) × (stretchOf (visible mask) (memberOf (z .celled) members) from i ≡ take n picked)
 
 abbrev μ-loop : tie.MeasureT-loop
 μ-loop z mask members from to picked₀ n₀ i₀ picked n i = to - i
@@ -24,7 +23,7 @@ abbrev μ-loop : tie.MeasureT-loop
 loop-holds : tie.Need-loop-holds Inv-loop μ-loop
 loop-holds c =
     let a = c .before .before .before .args in
-    (search needs, search needs, search needs, refl, pick-none (shownTo (visible (a .mask .now)) (memberOf (a .z .celled) (a .members .now)) (a .from)) (a .picked .now))
+    (search needs, search needs, search needs, refl, pick-none (visible (a .mask .now)) (memberOf (a .z .celled) (a .members .now)) (a .from) (a .picked .now))
 
 row-number-requires : tie.Need-row-number-requires Inv-loop μ-loop
 row-number-requires c κs =
@@ -52,7 +51,7 @@ loop-again c =
       omega (arith, c .before .before .before .loop-test .taken),
       omega (arith, one-most (c .before .is-visible .result), c .one-if .ensures),
       simp length-set (c .before .before .before .before .loop .inv .3),
-      pick-step (visible (a .mask .now)) (memberOf (a .z .celled) (a .members .now)) (c .before .before .before .before .loop .i) (c .before .before .before .before .loop .n) _ (c .before .before .row-number .result) (shownTo (visible (a .mask .now)) (memberOf (a .z .celled) (a .members .now)) (a .from)) (c .before .before .before .before .loop .picked) (omega (arith, c .before .before .before .loop-test .taken, c .before .before .before .before .before .before .before .before .pre .room)) (c .before .before .row-number .ensures) (c .one-if .ensures ∙ ap (λ (b : Bool). cond b 1 0) (c .before .is-visible .ensures)) (c .before .before .before .before .loop .inv .4),
+      pick-step (visible (a .mask .now)) (memberOf (a .z .celled) (a .members .now)) (a .from) (c .before .before .before .before .loop .i) (c .before .before .before .before .loop .n) _ (c .before .before .row-number .result) (c .before .before .before .before .loop .picked) (c .before .before .before .before .loop .inv .0) (omega (arith, c .before .before .before .loop-test .taken, c .before .before .before .before .before .before .before .before .pre .room)) (c .before .before .row-number .ensures) (c .one-if .ensures ∙ ap (λ (b : Bool). cond b 1 0) (c .before .is-visible .ensures)) (c .before .before .before .before .loop .inv .4),
     )
 
 returns : tie.Need-returns Inv-loop μ-loop
@@ -61,7 +60,7 @@ returns c =
     record {
       room = omega (arith, c .before .before .before .before .before .pre .room);
       few = omega arith;
-      shown = rw e at (c .before .loop .inv .4);
+      are = rw e at (c .before .loop .inv .4);
     }
 
 pub pick-rows-spec : {M : Type 1} → statement M

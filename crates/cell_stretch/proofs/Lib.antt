@@ -1,0 +1,3 @@
+pub mod Picks
+pub mod Stretches
+pub mod Determinacy
