@@ -3,9 +3,9 @@ use crate::checked::Ran;
 use answers::Clustered;
 use answers::Stage;
 use kmeans_assign::Frame;
-use recorded::layout::product;
 use lending::parts;
 use lending::tally::Tally;
+use recorded::layout::product;
 
 // Rows of two coordinates, the number of centres, the epochs, whether a split follows, how many of the draws 0.0, 0.25, 0.5, 0.4 are lent;
 // and what comes out: the answer's number, the draws used, the centres, how many rows each has, and the last assignment.

@@ -2,10 +2,10 @@
 use crate::checked::Ran;
 use answers::Clustered;
 use kmeans_assign::Frame;
+use lending::parts;
 use recorded::layout::after;
 use recorded::layout::count;
 use recorded::layout::product;
-use lending::parts;
 
 // The numbers before the lists.
 pub(crate) struct Numbers {

@@ -6,9 +6,9 @@ mod examples;
 mod fits;
 mod kind_kmeans;
 
-use recorded::layout;
 use lending::tally;
 use lending::tally::Tally;
+use recorded::layout;
 
 // The kind of the file's cases.
 const KMEANS: u32 = 1;
