@@ -5,7 +5,7 @@ use std::str::FromStr;
 
 use seat::Subject;
 
-use crate::case::Kind;
+use crate::cases::case::Kind;
 
 /// A command, what it takes, and how it is written.
 struct Form {
@@ -50,9 +50,9 @@ const COMMANDS: [Form; 8] = [
     },
     Form {
         name: "bench",
-        flags: &["--kind", "--voice"],
+        flags: &["--kind", "--voice", "--quick"],
         words: 0,
-        usage: "bench [--kind plain|celled|all] [--voice page|library]",
+        usage: "bench [--kind plain|celled|all] [--voice page|library] [--quick]",
     },
     Form {
         name: "fuzz",
@@ -63,7 +63,7 @@ const COMMANDS: [Form; 8] = [
 ];
 
 /// The flags that stand alone; after any other comes its value.
-const SWITCHES: [&str; 1] = ["--heap"];
+const SWITCHES: [&str; 2] = ["--heap", "--quick"];
 
 /// What the command line says.
 pub struct Options {
@@ -159,7 +159,7 @@ impl Options {
         match self.value("--voice").unwrap_or(default) {
             "page" => Ok(&page::Page),
             #[cfg(feature = "library")]
-            "library" => Ok(&crate::library::Library),
+            "library" => Ok(&crate::voices::library::Library),
             #[cfg(not(feature = "library"))]
             "library" => {
                 Err("the library is not linked: build with --features library".to_string())
@@ -172,4 +172,34 @@ impl Options {
 /// A word as a number.
 fn number<T: FromStr>(whose: &str, word: &str) -> Result<T, String> {
     word.parse().map_err(|_| format!("{whose} needs a number, not {word}"))
+}
+
+#[cfg(test)]
+mod tests {
+    use super::*;
+
+    /// Why a command line is refused.
+    fn refused(line: &[&str]) -> String {
+        Options::read(line.iter().map(|word| word.to_string())).err().expect("it is refused")
+    }
+
+    /// Every flag that some command has is refused, by its name, by every command that has it not.
+    #[test]
+    fn flags_of_other_commands() {
+        let all: Vec<&str> = COMMANDS.iter().flat_map(|form| form.flags).copied().collect();
+        for form in &COMMANDS {
+            for flag in all.iter().filter(|flag| !form.flags.contains(flag)) {
+                let words = format!("{} has no flag {flag}\n", form.name);
+                assert!(refused(&[form.name, flag, "1"]).starts_with(&words));
+            }
+        }
+    }
+
+    /// Words and values that are too many or missing are named too.
+    #[test]
+    fn words_that_do_not_fit() {
+        assert!(refused(&["record", "a", "b"]).starts_with("record takes no b\n"));
+        assert!(refused(&["compare", "--cases"]).starts_with("--cases needs a value\n"));
+        assert!(refused(&["look"]).starts_with("there is no command look\n"));
+    }
 }

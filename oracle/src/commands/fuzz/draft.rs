@@ -1,9 +1,8 @@
 //! Calls of the face with anything: numbers at and past every bound, lengths right and wrong, contents
 //! of every kind. Most are small; each is decided by the run's seed and its number.
 
-use crate::chance::Chance;
-use crate::disagree::AVERAGING;
-use crate::generate::{Grain, GRAINS};
+use crate::cases::chance::Chance;
+use crate::cases::generate::{Grain, AVERAGING, GRAINS};
 
 use super::call::{Buffers, Call, Function, Shape};
 use super::content::*;

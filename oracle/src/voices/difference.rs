@@ -3,9 +3,9 @@
 
 use seat::{Refusal, BLANK_ROW};
 
-use crate::case::{Buffer, Results, Training};
-use crate::drive::{Heard, Reply};
-use crate::original::{Refused, Verdict};
+use crate::cases::case::{Buffer, Results, Training};
+use crate::judge::original::{Refused, Verdict};
+use crate::voices::drive::{Heard, Reply};
 
 /// The first difference, in words; none if the two agree. A case outside the domain has none.
 pub fn difference(verdict: &Verdict, reply: &Reply) -> Option<String> {

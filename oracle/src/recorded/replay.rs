@@ -1,16 +1,17 @@
 //! The command `replay`: reads files of recorded answers, puts each case to a voice, and says how
-//! many agree. The layout stands in `record.rs`.
+//! many agree. The layout stands in `layout.rs`.
 
 use std::fs;
 use std::path::{Path, PathBuf};
 
 use seat::{PlainParams, Subject};
 
-use crate::case::*;
-use crate::difference::difference;
-use crate::drive::hear;
-use crate::original::Verdict;
-use crate::record::{self, MAGIC, VERSION};
+use crate::cases::case::*;
+use crate::judge::original::Verdict;
+use crate::outcome::Outcome;
+use crate::recorded::layout::{self, MAGIC, VERSION};
+use crate::voices::difference::difference;
+use crate::voices::drive::hear;
 
 /// How many cases were replayed, and how many of them agree.
 #[derive(Clone, Copy, Default)]
@@ -19,9 +20,9 @@ pub struct Count {
     pub agree: usize,
 }
 
-/// Replays the files named, or else the file of each kind that the voice has; true if there are cases
+/// Replays the files named, or else the file of each kind that the voice has; well if there are cases
 /// and all agree.
-pub fn replay_all(subject: &dyn Subject, named: &[PathBuf]) -> bool {
+pub fn replay_all(subject: &dyn Subject, named: &[PathBuf]) -> Outcome {
     let paths = if named.is_empty() { in_place(subject) } else { named.to_vec() };
     let mut all = Count::default();
     for path in &paths {
@@ -31,14 +32,13 @@ pub fn replay_all(subject: &dyn Subject, named: &[PathBuf]) -> bool {
                 all = Count { cases: all.cases + cases, agree: all.agree + agree };
             }
             Err(words) => {
-                println!("{}: {words}", path.display());
-                println!("not replayed");
-                return false;
+                return Outcome::not_well(format!("not replayed: {}: {words}", path.display()));
             }
         }
     }
-    println!("replayed with the {}: {} of {} agree", subject.name(), all.agree, all.cases);
-    all.cases > 0 && all.agree == all.cases
+    let Count { cases, agree } = all;
+    let words = format!("replayed with the {}: {agree} of {cases} agree", subject.name());
+    Outcome::new(cases > 0 && agree == cases, words)
 }
 
 /// The files of the kinds that a voice has; says which it has not.
@@ -48,7 +48,7 @@ fn in_place(subject: &dyn Subject) -> Vec<PathBuf> {
     for kind in not_had {
         println!("{}: the {} has no entry point for one alone", kind.name(), subject.name());
     }
-    had.into_iter().map(|kind| record::file(kind, None)).collect()
+    had.into_iter().map(|kind| layout::file(kind, None)).collect()
 }
 
 /// Replays a file, and prints every case that does not agree; or why it cannot be replayed.

@@ -1,7 +1,7 @@
 //! What a buffer holds at entry: contents of every kind, sound and damaged.
 
-use crate::chance::Chance;
-use crate::generate::{coordinate, Grain, GRAINS};
+use crate::cases::chance::Chance;
+use crate::cases::generate::{coordinate, Grain, GRAINS};
 
 use super::call::Shape;
 

@@ -13,8 +13,9 @@ use std::time::Instant;
 
 use seat::Subject;
 
-use crate::case::Kind;
-use crate::chance::Chance;
+use crate::cases::case::Kind;
+use crate::cases::chance::Chance;
+use crate::outcome::Outcome;
 
 /// A time is the least of at least so many runs, and of more while they take less than these seconds;
 /// of fewer once they have taken so long.
@@ -26,9 +27,18 @@ const LONG: f64 = 10.0;
 /// Queries of one run.
 const QUERIES: usize = 20;
 
-/// Times the indexes of a kind, or both; the last line has the worst ratio, and whether the answers
-/// are equal. True if they are.
-pub fn bench(subject: &dyn Subject, kind: Option<Kind>) -> Result<bool, String> {
+/// What is to be timed.
+pub struct Order {
+    /// The indexes of one kind, or both.
+    pub kind: Option<Kind>,
+    /// A few small indexes only.
+    pub quick: bool,
+}
+
+/// Times what is asked for; the last line has the worst ratio, and whether the answers are equal. Well
+/// if they are.
+pub fn bench(subject: &dyn Subject, order: &Order) -> Result<Outcome, String> {
+    let Order { kind, quick } = *order;
     if kind == Some(Kind::Kmeans) {
         return Err("bench times plain and celled indexes".to_string());
     }
@@ -38,14 +48,14 @@ pub fn bench(subject: &dyn Subject, kind: Option<Kind>) -> Result<bool, String> 
     println!("{name}: with its tests of the input and its clearing of the lent buffers");
     let mut report = Report { ratio: 0.0, words: "nothing".to_string(), equal: true };
     if kind != Some(Kind::Celled) {
-        plain::time(subject, &mut report);
+        plain::time(subject, quick, &mut report);
     }
     if kind != Some(Kind::Plain) {
-        celled::time(subject, &mut report);
+        celled::time(subject, quick, &mut report);
     }
     let answers = if report.equal { "answers equal" } else { "ANSWERS DIFFER" };
-    println!("{answers}, worst ratio {:.3}: {}", report.ratio, report.words);
-    Ok(report.equal)
+    let words = format!("{answers}, worst ratio {:.3}: {}", report.ratio, report.words);
+    Ok(Outcome::new(report.equal, words))
 }
 
 /// The largest ratio so far, and whether all answers are equal.

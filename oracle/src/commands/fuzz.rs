@@ -12,7 +12,8 @@ mod numbers;
 use std::collections::BTreeMap;
 use std::time::Instant;
 
-use crate::compare::seed_of;
+use crate::cases::chance::seed_of;
+use crate::outcome::Outcome;
 
 use call::Function;
 use check::check;
@@ -56,8 +57,8 @@ struct Tally {
     to_damage: BTreeMap<(Function, String), usize>,
 }
 
-/// Runs the calls and prints what came of them; true if none differed and every answer was given.
-pub fn fuzz(order: &Order) -> bool {
+/// Runs the calls and prints what came of them; well if none differed and every answer was given.
+pub fn fuzz(order: &Order) -> Outcome {
     crash::install();
     if let Some(at) = order.only {
         return one_alone(order, at);
@@ -68,16 +69,15 @@ pub fn fuzz(order: &Order) -> bool {
     let mut tally = Tally::default();
     let equal = (0..order.calls).all(|at| one(order, at, &mut lender, &mut tally));
     if !equal || !(order.heap || numbers::every_number()) {
-        println!("differences 1");
-        return false;
+        return Outcome::differences(1, 1);
     }
     let missing = tally.print();
     println!("seconds {:.1}", begun.elapsed().as_secs_f64());
+    let words = format!("calls {}, differences 0", order.calls);
     match missing {
-        0 => println!("calls {}, differences 0", order.calls),
-        _ => println!("calls {}, differences 0, but answers never given {missing}", order.calls),
+        0 => Outcome::new(true, words),
+        _ => Outcome::not_well(format!("too short: {words}, answers that never came up {missing}")),
     }
-    missing == 0
 }
 
 /// Where the buffers stand, in words.
@@ -106,11 +106,10 @@ fn one(order: &Order, at: usize, lender: &mut Lender, tally: &mut Tally) -> bool
 }
 
 /// One call alone, printed with its buffers before it is made.
-fn one_alone(order: &Order, at: usize) -> bool {
+fn one_alone(order: &Order, at: usize) -> Outcome {
     draft(seed_of(order.seed, at)).0.print();
     let equal = one(order, at, &mut Lender::new(), &mut Tally::default());
-    println!("calls 1, differences {}", !equal as usize);
-    equal
+    Outcome::new(equal, format!("calls 1, differences {}", !equal as usize))
 }
 
 impl Tally {

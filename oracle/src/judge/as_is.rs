@@ -6,8 +6,8 @@ use hora_as_is::core::metrics::Metric::Euclidean;
 use hora_as_is::index::pq_idx::{reach, IVFPQIndex, PQIndex};
 use hora_as_is::index::pq_params::{IVFPQParams, PQParams};
 
-use crate::case::*;
-use crate::quiet::{catch, Panic};
+use crate::cases::case::*;
+use crate::judge::quiet::{catch, Panic};
 
 /// How many cells are shown with their sub-centres.
 pub const CELLS_SHOWN: usize = 3;

@@ -7,14 +7,15 @@ use std::time::Instant;
 
 use seat::Subject;
 
-use crate::case::*;
-use crate::chance::Chance;
-use crate::difference::difference;
-use crate::drive::hear;
-use crate::generate::fitted;
-use crate::original::{judge, ranges as original_ranges, Verdict};
-use crate::shrink::shrink;
-use crate::tally::Tally;
+use crate::cases::case::*;
+use crate::cases::chance::seed_of;
+use crate::cases::generate::fitted;
+use crate::cases::shrink::shrink;
+use crate::commands::tally::Tally;
+use crate::judge::original::{judge, ranges as original_ranges, Verdict};
+use crate::outcome::Outcome;
+use crate::voices::difference::difference;
+use crate::voices::drive::hear;
 
 /// What is to be compared.
 pub struct Order {
@@ -30,11 +31,6 @@ struct Found {
     words: String,
 }
 
-/// The seed of one case of a run.
-pub fn seed_of(run: u64, at: usize) -> u64 {
-    Chance::new(run ^ (at as u64).wrapping_mul(0xd134_2543_de82_ef95)).bits()
-}
-
 /// The kinds to compare: the one asked for, or all that the voice has.
 pub fn kinds(subject: &dyn Subject, asked: Option<Kind>) -> Result<Vec<Kind>, String> {
     match asked {
@@ -46,8 +42,8 @@ pub fn kinds(subject: &dyn Subject, asked: Option<Kind>) -> Result<Vec<Kind>, St
     }
 }
 
-/// Runs the comparison and prints what came of it; true if cases were compared and none differed.
-pub fn compare(subject: &dyn Subject, order: &Order) -> bool {
+/// Runs the comparison and prints what came of it; well if cases were compared and none differed.
+pub fn compare(subject: &dyn Subject, order: &Order) -> Outcome {
     let begun = Instant::now();
     let names: Vec<&str> = order.kinds.iter().map(|kind| kind.name()).collect();
     println!(
@@ -58,22 +54,16 @@ pub fn compare(subject: &dyn Subject, order: &Order) -> bool {
         order.seed
     );
     if !ranges_agree(subject) {
-        println!("differences 1");
-        return false;
+        return Outcome::differences(1, 1);
     }
     let (tally, found) = run(subject, order);
     tally.print();
     println!("seconds {:.1}", begun.elapsed().as_secs_f64());
+    let differences = found.is_some() as usize;
     if let Some(found) = found {
         print_difference(subject, order, found);
-        println!("differences 1");
-        return false;
     }
-    match tally.compared() {
-        0 => println!("nothing was compared"),
-        _ => println!("differences 0"),
-    }
-    tally.compared() > 0
+    Outcome::differences(differences, tally.compared())
 }
 
 /// The range rule on every D and n_sub within bounds.

@@ -2,9 +2,9 @@
 
 use seat::PlainParams;
 
-use crate::case::*;
-use crate::drive::Reply;
-use crate::original::Verdict;
+use crate::cases::case::*;
+use crate::judge::original::Verdict;
+use crate::voices::drive::Reply;
 
 /// Counts by kind of case, and of the corners reached.
 #[derive(Clone, Default)]

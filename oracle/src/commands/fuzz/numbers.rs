@@ -4,7 +4,7 @@
 use hora::index::pq_params::{IVFPQParams, PQParams};
 use seat::Subject;
 
-use crate::face::*;
+use crate::voices::face::*;
 
 use super::call::{Call, Function, Shape};
 use super::check::check;

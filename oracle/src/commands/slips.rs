@@ -3,14 +3,16 @@
 
 use slipped::{slips, Slip};
 
-use crate::case::{Case, Kind};
-use crate::compare::{differs, seed_of};
-use crate::difference::difference;
-use crate::drive::hear;
-use crate::generate::fitted;
-use crate::original::Verdict;
-use crate::quiet::{catch, Panic};
-use crate::shrink::shrink;
+use crate::cases::case::{Case, Kind};
+use crate::cases::chance::seed_of;
+use crate::cases::generate::fitted;
+use crate::cases::shrink::shrink;
+use crate::commands::compare::differs;
+use crate::judge::original::Verdict;
+use crate::judge::quiet::{catch, Panic};
+use crate::outcome::Outcome;
+use crate::voices::difference::difference;
+use crate::voices::drive::hear;
 use seat::Subject;
 
 /// Where a slip was seen.
@@ -20,9 +22,9 @@ struct Seen {
     words: String,
 }
 
-/// Runs cases until every slip that can be seen is seen, and prints where; true if all are, and
+/// Runs cases until every slip that can be seen is seen, and prints where; well if all are, and
 /// those that cannot be are not.
-pub fn show(cases: usize, seed: u64) -> bool {
+pub fn show(cases: usize, seed: u64) -> Outcome {
     println!("slips: up to {cases} cases of every kind, seed {seed}");
     let all: Vec<(&Slip, &dyn Subject)> = slips().collect();
     let mut seen: Vec<Option<Seen>> = all.iter().map(|_| None).collect();
@@ -52,7 +54,7 @@ fn catch_difference(voice: &dyn Subject, case: &Case, verdict: &Verdict) -> Opti
 }
 
 /// A line for each slip, and the count.
-fn print(all: &[(&Slip, &dyn Subject)], seen: &[Option<Seen>], run: usize) -> bool {
+fn print(all: &[(&Slip, &dyn Subject)], seen: &[Option<Seen>], run: usize) -> Outcome {
     let mut right = 0;
     for ((slip, _), seen) in all.iter().zip(seen) {
         let (as_it_must_be, words) = match (seen, slip.same_because) {
@@ -69,12 +71,12 @@ fn print(all: &[(&Slip, &dyn Subject)], seen: &[Option<Seen>], run: usize) -> bo
     let same = all.iter().filter(|(slip, _)| slip.same_because.is_some()).count();
     let found = seen.iter().flatten().count();
     println!("seen {found}, the same by arithmetic {same}");
-    println!("slips {}, as they must be {right}", all.len());
-    right == all.len()
+    let words = format!("slips {}, as they must be {right}", all.len());
+    Outcome::new(right == all.len(), words)
 }
 
-/// Prints the smallest case at which one slip is seen; true if it is seen.
-pub fn show_smallest(number: usize, cases: usize, seed: u64) -> Result<bool, String> {
+/// Prints the smallest case at which one slip is seen; well if it is seen.
+pub fn show_smallest(number: usize, cases: usize, seed: u64) -> Result<Outcome, String> {
     let fewer = || format!("there are {} slips, counted from 0", slips().count());
     let (slip, voice) = slips().nth(number).ok_or_else(fewer)?;
     let differing =
@@ -82,10 +84,9 @@ pub fn show_smallest(number: usize, cases: usize, seed: u64) -> Result<bool, Str
     for run in 0..cases {
         let (case, _, _) = fitted(Kind::ALL[run % 3], seed_of(seed, run));
         if differing(&case) {
-            println!("{}: {:?}", slip.says, shrink(case, &differing));
-            return Ok(true);
+            let words = format!("{}: {:?}", slip.says, shrink(case, &differing));
+            return Ok(Outcome::new(true, words));
         }
     }
-    println!("{}: NOT SEEN in {cases} cases", slip.says);
-    Ok(false)
+    Ok(Outcome::not_well(format!("{}: not seen in {cases} cases", slip.says)))
 }

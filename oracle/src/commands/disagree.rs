@@ -5,9 +5,11 @@
 
 use seat::{PlainParams, PlainTraining, Stage, Step, Subject, Trained};
 
-use crate::as_is::{self, list};
-use crate::case::*;
-use crate::drive::{hear, Heard, Reply};
+use crate::cases::case::*;
+use crate::cases::generate::AVERAGING;
+use crate::judge::as_is::{self, list};
+use crate::outcome::Outcome;
+use crate::voices::drive::{hear, Heard, Reply};
 
 /// The largest f32.
 const MAX: f32 = f32::MAX;
@@ -19,8 +21,8 @@ struct Item {
     why: &'static str,
 }
 
-/// Prints every item; true if the two differ on each, and the voice says what document 01 says.
-pub fn show(voice: &dyn Subject) -> bool {
+/// Prints every item; well if the two differ on each, and the voice says what document 01 says.
+pub fn show(voice: &dyn Subject) -> Outcome {
     let items = items();
     let (mut differ, mut heard) = (0, 0);
     for item in &items {
@@ -43,10 +45,10 @@ pub fn show(voice: &dyn Subject) -> bool {
         println!();
     }
     let (name, all) = (voice.name(), items.len());
-    println!(
+    let words = format!(
         "of {all} inputs the Rust differs on {differ}, the {name} is as document 01 on {heard}"
     );
-    differ == all && heard == all
+    Outcome::new(differ == all && heard == all, words)
 }
 
 /// A plain index with one sub-centre for each row's range and no epochs, to be changed.
@@ -150,11 +152,6 @@ fn overflow_in_training() -> Vec<Item> {
         ),
     ]
 }
-
-/// Rows whose sum stays finite in row order, but not without the second row, which is 1 - 1/1024 of
-/// their mean.
-pub const AVERAGING: [f32; 5] =
-    [2.4e38, f32::from_bits(0xfdf0_816b), 1.4e38, -3e38, f32::from_bits(0xff34_95c4)];
 
 /// Distances and sums that come out not finite.
 fn overflow_in_search() -> Vec<Item> {

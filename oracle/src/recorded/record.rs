@@ -1,74 +1,18 @@
 //! The command `record`: writes the Rust's answers to chosen cases into files, one for each kind of
-//! case, that a program can replay without the Rust.
-//!
-//! Layout, version 1. Every number is little-endian and starts at a multiple of 4: u32, f32 as its
-//! bits, f64 as its bits (low word first). A list has no length of its own; its length is given in
-//! brackets.
-//!
-//! ```text
-//! file     8 bytes "bergrosk", u32 version = 1, u32 cases, then the cases
-//! case     u32 kind (1 k-means, 2 plain, 3 celled; the same in all of a file), u32 length of the
-//!          body in bytes, body
-//!
-//! k-means  u32 D, n, begin, end, m, has residual (0 or 1), n_center, epochs, draws lent
-//!          f32 rows[n·D], u32 members[m], f32 residual[D] if there is one, f64 draws[draws lent]
-//!          answer: u32 draws used, f32 centres[n_center·(end − begin)], u32 last assignment[m]
-//!
-//! plain    u32 D, n_sub, sub_bits, epochs, n, draws lent, queries, C
-//!          f32 rows[n·D], f64 draws[draws lent]
-//!          answer: u32 draws used, f32 sub-centres[K·C], codes[n·n_sub]
-//!          queries
-//!
-//! celled   u32 D, n_sub, sub_bits, cells, probes, epochs, n, draws lent, queries, C
-//!          f32 rows[n·D], f64 draws[draws lent]
-//!          answer: u32 draws used, f32 coarse centres[cells·D], u32 starts[cells + 1],
-//!          u32 members[n], f32 sub-centres[cells·K·C], codes[n·n_sub]
-//!          queries
-//!
-//! codes    n·n_sub bytes, then zero bytes up to a multiple of 4
-//! query    u32 k, f32 query[D]; answer: u32 found, scored, u32 rows[k], f32 sums[k]
-//! ```
-//!
-//! All rows are visible, no case is refused, and blanks stand in the results as document 01 has them.
+//! case, that a program can replay without the Rust. The layout stands in `layout.rs`.
 
 use std::fs;
-use std::path::{Path, PathBuf};
+use std::path::Path;
 
-use crate::case::*;
-use crate::corners::corners;
-use crate::replay;
+use crate::cases::case::*;
+use crate::outcome::Outcome;
+use crate::recorded::corners::{corners, names};
+use crate::recorded::layout::{file, MAGIC, VERSION};
+use crate::recorded::replay;
 
-/// The first bytes of the file.
-pub const MAGIC: &[u8; 8] = b"bergrosk";
-
-/// The version of the layout.
-pub const VERSION: u32 = 1;
-
-/// What one case may hold, so that a program without a heap can set aside its buffers.
-pub mod limits {
-    pub const ROWS: usize = 512;
-    pub const ROW_WORDS: usize = 16_384;
-    pub const SUB_CENTRE_WORDS: usize = 65_536;
-    pub const DRAWS: usize = 20_000;
-    pub const QUERIES: usize = 4;
-    pub const K: usize = 600;
-}
-
-/// The file of a kind, in the folder or, without one, in its place in the repository.
-pub fn file(kind: Kind, folder: Option<&Path>) -> PathBuf {
-    let name = format!("{}.bin", kind.name());
-    let root = Path::new(env!("CARGO_MANIFEST_DIR"));
-    match (folder, kind) {
-        (Some(folder), _) => folder.join(name),
-        (None, Kind::Kmeans) => root.join("../crates/replay_kmeans/data").join(name),
-        (None, Kind::Plain) => root.join("../crates/replay_plain/data").join(name),
-        (None, Kind::Celled) => root.join("recorded").join(name),
-    }
-}
-
-/// Writes the file of each kind, then reads it back and replays it with the page; true if all of it
+/// Writes the file of each kind, then reads it back and replays it with the page; well if all of it
 /// agrees.
-pub fn record(folder: Option<&Path>) -> bool {
+pub fn record(folder: Option<&Path>) -> Outcome {
     let cases = corners();
     print_corners(&cases);
     let mut agree = 0;
@@ -77,14 +21,13 @@ pub fn record(folder: Option<&Path>) -> bool {
         match record_kind(&cases, kind, &path) {
             Ok(count) => agree += count,
             Err(words) => {
-                println!("{}: {words}", path.display());
-                println!("not recorded");
-                return false;
+                return Outcome::not_well(format!("not recorded: {}: {words}", path.display()));
             }
         }
     }
-    println!("recorded and replayed with the page: {agree} of {} agree", cases.len());
-    agree == cases.len()
+    let all = cases.len();
+    let words = format!("recorded and replayed with the page: {agree} of {all} agree");
+    Outcome::new(agree == all, words)
 }
 
 /// Writes the cases of one kind, then replays them; how many agree, or why they cannot be recorded.
@@ -199,7 +142,7 @@ fn put_query(bytes: &mut Vec<u8>, query: &Query, results: &Results) {
 fn print_corners(cases: &[(Case, Training)]) {
     let mut list: Vec<(String, usize)> = Vec::new();
     for (case, _) in cases {
-        for name in crate::corners::names(case) {
+        for name in names(case) {
             match list.iter_mut().find(|(known, _)| *known == name) {
                 Some((_, count)) => *count += 1,
                 None => list.push((name, 1)),

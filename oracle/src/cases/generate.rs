@@ -3,9 +3,14 @@
 
 use seat::PlainParams;
 
-use crate::case::*;
-use crate::chance::Chance;
-use crate::original::{judge, Verdict};
+use crate::cases::case::*;
+use crate::cases::chance::Chance;
+use crate::judge::original::{judge, Verdict};
+
+/// Rows of one coordinate whose sum stays finite in row order, but not without the second row, which
+/// is 1 - 1/1024 of their mean: a centre overflows in averaging, though not at start.
+pub const AVERAGING: [f32; 5] =
+    [2.4e38, f32::from_bits(0xfdf0_816b), 1.4e38, -3e38, f32::from_bits(0xff34_95c4)];
 
 /// What the coordinates of a case look like.
 #[derive(Clone, Copy, Debug)]

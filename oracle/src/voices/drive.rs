@@ -6,7 +6,7 @@ use seat::{
     PlainSearch, PlainTraining, Searched, Subject, Trained,
 };
 
-use crate::case::*;
+use crate::cases::case::*;
 
 /// What a voice answered, and what it left in the lent buffers.
 pub struct Reply {

@@ -5,11 +5,11 @@
 
 use seat::PlainParams;
 
-use crate::case::*;
-use crate::chance::Chance;
-use crate::generate::{coordinate, point, rows, Grain};
-use crate::original::{judge, Verdict};
-use crate::record::limits;
+use crate::cases::case::*;
+use crate::cases::chance::Chance;
+use crate::cases::generate::{coordinate, point, rows, Grain};
+use crate::judge::original::{judge, Verdict};
+use crate::recorded::layout::limits;
 
 const GRAINS: [Grain; 9] = [
     Grain::Whole,

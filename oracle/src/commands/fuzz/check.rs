@@ -6,8 +6,8 @@ use seat::{
     PlainTraining, Subject,
 };
 
-use crate::face::*;
-use crate::library::check_answer;
+use crate::voices::face::*;
+use crate::voices::library::check_answer;
 
 use super::call::{sides, Buffers, Call, Function, Loans, Shape, Side};
 use super::lend::{Lender, Manner};

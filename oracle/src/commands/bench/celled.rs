@@ -12,7 +12,7 @@ use seat::{
     CelledCheck, CelledIndex, CelledParams, CelledSearch, CelledTraining, PlainParams, Subject,
 };
 
-use crate::chance::Chance;
+use crate::cases::chance::Chance;
 
 use super::{least, queries, same_bits, time as in_words, timed, Report, QUERIES};
 
@@ -39,9 +39,13 @@ const WORKLOADS: [Workload; 6] = [
     Workload { n: 10_000, cells: 1_024, probes: &[8] },
 ];
 
+/// What is timed instead if it has to be quick.
+const QUICK: [Workload; 1] = [Workload { n: 1_000, cells: 64, probes: &[8, 1, 64] }];
+
 /// Times every workload.
-pub fn time(subject: &dyn Subject, report: &mut Report) {
-    for workload in &WORKLOADS {
+pub fn time(subject: &dyn Subject, quick: bool, report: &mut Report) {
+    let workloads = if quick { &QUICK[..] } else { &WORKLOADS };
+    for workload in workloads {
         time_one(subject, workload, report);
     }
 }

@@ -7,7 +7,7 @@ use hora_as_is::index::pq_idx::{reach, PQIndex};
 use hora_as_is::index::pq_params::PQParams;
 use seat::{PlainParams, PlainSearch, PlainTraining, Subject};
 
-use crate::chance::Chance;
+use crate::cases::chance::Chance;
 
 use super::{least, queries, same_bits, timed, Report, QUERIES};
 
@@ -34,9 +34,16 @@ const WORKLOADS: [Workload; 7] = [
     Workload { d: 32, n: 1_000, n_sub: 4, sub_bits: 4, epochs: 100, ks: [1, 10, 1_000] },
 ];
 
+/// What is timed instead if it has to be quick.
+const QUICK: [Workload; 2] = [
+    Workload { d: 128, n: 10_000, n_sub: 16, sub_bits: 4, epochs: 2, ks: [10, 1_000, 4_096] },
+    Workload { d: 32, n: 1_000, n_sub: 4, sub_bits: 4, epochs: 100, ks: [1, 10, 1_000] },
+];
+
 /// Times every workload.
-pub fn time(subject: &dyn Subject, report: &mut Report) {
-    for workload in &WORKLOADS {
+pub fn time(subject: &dyn Subject, quick: bool, report: &mut Report) {
+    let workloads = if quick { &QUICK[..] } else { &WORKLOADS };
+    for workload in workloads {
         time_one(subject, workload, report);
     }
 }

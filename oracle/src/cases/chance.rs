@@ -49,3 +49,8 @@ impl Chance {
         2.0 * self.unit() - 1.0
     }
 }
+
+/// The seed of one case of a run, or of one call.
+pub fn seed_of(run: u64, at: usize) -> u64 {
+    Chance::new(run ^ (at as u64).wrapping_mul(0xd134_2543_de82_ef95)).bits()
+}

@@ -14,8 +14,8 @@ use hora::index::pq_idx::{reach, IVFPQIndex, PQIndex};
 use hora::index::pq_params::{IVFPQParams, PQParams};
 use seat::{CelledParams, PlainParams, Ranges, Stage, Step, BLANK_ROW};
 
-use crate::case::*;
-use crate::quiet::{catch, Panic};
+use crate::cases::case::*;
+use crate::judge::quiet::{catch, Panic};
 
 /// What the Rust says to a case.
 pub enum Verdict {

@@ -6,7 +6,7 @@
 
 use seat::*;
 
-use crate::face::*;
+use crate::voices::face::*;
 
 impl Place {
     /// The header's place of a refusal: the centre is that of an 8 and of a 9 alike.

@@ -9,8 +9,9 @@ use std::time::Instant;
 
 use hora::core::metrics::{metric, Metric::Euclidean};
 
-use crate::chance::Chance;
-use crate::generate::{point, GRAINS};
+use crate::cases::chance::Chance;
+use crate::cases::generate::{point, GRAINS};
+use crate::outcome::Outcome;
 
 /// What came out, so that the report shows what was reached.
 #[derive(Default)]
@@ -22,8 +23,8 @@ struct Reached {
     infinite_input: usize,
 }
 
-/// Puts `inputs` pairs to both; true if all came out the same.
-pub fn check(inputs: usize, seed: u64) -> bool {
+/// Puts `inputs` pairs to both; well if all came out the same.
+pub fn check(inputs: usize, seed: u64) -> Outcome {
     println!("distance-check: {inputs} inputs, seed {seed}");
     let begun = Instant::now();
     let mut chance = Chance::new(seed);
@@ -41,18 +42,13 @@ pub fn check(inputs: usize, seed: u64) -> bool {
         let right = page::distance(&a, &b);
         if rust.to_bits() != right.to_bits() {
             println!("DIFFERENT: the Rust {rust:e}, step 2 {right:e}\n{a:?}\n{b:?}");
-            println!("differences 1");
-            return false;
+            return Outcome::differences(1, inputs);
         }
         reached.count(rust);
     }
     reached.print();
     println!("seconds {:.1}", begun.elapsed().as_secs_f64());
-    match inputs {
-        0 => println!("nothing was compared"),
-        _ => println!("differences 0"),
-    }
-    inputs > 0
+    Outcome::differences(0, inputs)
 }
 
 impl Reached {

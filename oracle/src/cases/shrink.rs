@@ -3,7 +3,7 @@
 
 use std::ops::Range;
 
-use crate::case::*;
+use crate::cases::case::*;
 
 /// How many smaller cases are tried in all.
 const TRIES: usize = 4000;
