@@ -12,7 +12,7 @@ fn main() {
     }
 }
 
-/// Tells cargo where the archive is; fails with a message if it is not there.
+/// Tells cargo where the archive is, or stops the build with one line if it is not there.
 fn link_library() {
     let x86_64 = env::var("CARGO_CFG_TARGET_ARCH").expect("set by cargo") == "x86_64";
     let oracle = PathBuf::from(env::var_os("CARGO_MANIFEST_DIR").expect("set by cargo"));
@@ -20,11 +20,11 @@ fn link_library() {
     let folder = root.join(if x86_64 { "target/staticlib" } else { "target/native" });
     let archive = folder.join("libbergrosk.a");
     println!("cargo:rerun-if-changed={}", archive.display());
-    assert!(
-        archive.exists(),
-        "the feature `library` links {}, which is not there: run oracle/library first",
-        archive.display()
-    );
+    if !archive.exists() {
+        let archive = archive.display();
+        println!("cargo::error=there is no {archive}, which the feature `library` links: run oracle/library first");
+        return;
+    }
     println!("cargo:rustc-link-search=native={}", folder.display());
     println!("cargo:rustc-link-lib=static=bergrosk");
 }

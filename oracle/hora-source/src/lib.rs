@@ -46,12 +46,18 @@ fn source() -> PathBuf {
     let given = env::var_os("HORA_SRC").unwrap_or_else(|| "../../shared/docs/src".into());
     let root = oracle().join(given);
     let source = root.join("src");
-    match source.canonicalize() {
-        Ok(found) => found,
-        Err(_) => {
-            panic!("no Rust at {}: set HORA_SRC to the folder that holds its src", root.display())
-        }
-    }
+    source.canonicalize().unwrap_or_else(|_| {
+        stop(format!(
+            "no Rust at {}: set HORA_SRC to the folder that holds its src",
+            root.display()
+        ))
+    })
+}
+
+/// Stops the build with one line.
+fn stop(words: String) -> ! {
+    println!("cargo::error={words}");
+    std::process::exit(0)
 }
 
 /// The folder `oracle/`, parent of the crate being built.
