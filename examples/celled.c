@@ -15,7 +15,6 @@ enum {
     EPOCHS = 10,
     ROWS = 6000,
     CLUSTERS = 200,
-    DRAWS = 2000000,
     TENANTS = 4,
     K = 10,
     QUERIES = 100,
@@ -43,6 +42,11 @@ static celled_index new_index(void) {
     index.subs = elements(index.len.subs, sizeof *index.subs);
     index.codes = elements(index.len.codes, sizeof *index.codes);
     return index;
+}
+
+/* How many draws are enough for a training, whatever the rows are. */
+static size_t enough_draws(void) {
+    return bergrosk_celled_draws(N_SUB, SUB_BITS, CELLS, EPOCHS);
 }
 
 static void free_index(celled_index index) {
@@ -101,8 +105,8 @@ static plain_index new_plain_index(const float *rows, const double *draws) {
     index.codes = elements(index.len.codes, sizeof *index.codes);
     uint32_t *work = elements(index.len.work, sizeof *work);
     bergrosk_train_answer answer = bergrosk_plain_train(D, N_SUB, SUB_BITS, EPOCHS, ROWS, rows,
-        index.len.rows, draws, DRAWS, index.subs, index.len.subs, index.codes, index.len.codes,
-        work, index.len.work);
+        index.len.rows, draws, bergrosk_plain_draws(N_SUB, SUB_BITS, EPOCHS), index.subs,
+        index.len.subs, index.codes, index.len.codes, work, index.len.work);
     must("the training of the plain index", answer.number, 0);
     free(work);
     return index;
@@ -193,7 +197,7 @@ static void say(const char *what, const celled_index *index, const workload *w, 
     uint32_t checked = check(index);
     bergrosk_search_answer searched = search(index, PROBES, w->queries, w->mask, &found);
     printf("  %-42s check %2lu, search %2lu: %s\n", what, (unsigned long)checked,
-        (unsigned long)searched.number, meaning(searched.number));
+        (unsigned long)searched.number, bergrosk_meaning(searched.number));
     must(what, checked, to_check);
     must(what, searched.number, to_search);
     free_results(found);
@@ -276,19 +280,19 @@ static int all_zero(const celled_index *index) {
 static void refused_trainings(celled_index *index, float *rows, const double *draws) {
     float kept = rows[17 * D];
     rows[17 * D] = NAN;
-    uint32_t refusal = train(index, rows, draws, DRAWS).number;
+    uint32_t refusal = train(index, rows, draws, enough_draws()).number;
     rows[17 * D] = kept;
     must("a training with a NaN", refusal, 6);
     must("the check after it", check(index), 0);
     printf("  a NaN in row 17: %lu, %s; the index still passes the check\n",
-        (unsigned long)refusal, meaning(refusal));
+        (unsigned long)refusal, bergrosk_meaning(refusal));
 
     bergrosk_train_answer answer = train(index, rows, draws, 100000);
     must("a training with few draws", answer.number, 8);
     must("the check after it", check(index), 10);
     must_hold("the index is zero after it", all_zero(index));
     printf("  only 100000 draws: %lu, %s; the index is zero, and fails the check\n",
-        (unsigned long)answer.number, meaning(answer.number));
+        (unsigned long)answer.number, bergrosk_meaning(answer.number));
     printf("    met in the split ");
     print_place(answer.place);
 }
@@ -317,12 +321,14 @@ static void free_workload(workload w) {
 }
 
 int main(void) {
+    must_round_rightly();
     workload w = new_workload();
-    double *draws = new_draws(DRAWS);
+    double *draws = new_draws(enough_draws());
     celled_index index = new_index();
-    bergrosk_train_answer answer = train(&index, w.rows, draws, DRAWS);
+    bergrosk_train_answer answer = train(&index, w.rows, draws, enough_draws());
     must("the training", answer.number, 0);
-    printf("training: %s, %zu of %d draws used\n", meaning(answer.number), answer.used, (int)DRAWS);
+    printf("training: %s, %zu of %zu draws used\n", bergrosk_meaning(answer.number), answer.used,
+        enough_draws());
     printf("%d rows of %d bytes became codes of %d bytes in %d cells\n", (int)ROWS,
         (int)(D * sizeof(float)), (int)N_SUB, (int)CELLS);
 

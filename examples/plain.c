@@ -14,7 +14,6 @@ enum {
     EPOCHS = 10,
     ROWS = 4000,
     CLUSTERS = 200,
-    DRAWS = 200000,
     TENANTS = 4,
     K = 10,
     QUERIES = 100
@@ -35,6 +34,11 @@ static plain_index new_index(void) {
     index.subs = elements(index.len.subs, sizeof *index.subs);
     index.codes = elements(index.len.codes, sizeof *index.codes);
     return index;
+}
+
+/* How many draws are enough for a training, whatever the rows are. */
+static size_t enough_draws(void) {
+    return bergrosk_plain_draws(N_SUB, SUB_BITS, EPOCHS);
 }
 
 static void free_index(plain_index index) {
@@ -65,8 +69,8 @@ static bergrosk_search_answer search(
 /* ---- searches, beside brute force */
 
 static void print_query(bergrosk_search_answer answer, const results *found, const results *exact) {
-    printf("query 0: %s, %zu rows scored, %zu found\n\n", meaning(answer.number), answer.scored,
-        answer.found);
+    printf("query 0: %s, %zu rows scored, %zu found\n\n", bergrosk_meaning(answer.number),
+        answer.scored, answer.found);
     puts("place   by the index: row, sum      by brute force: row, squared distance");
     for (size_t i = 0; i < found->k; i++) {
         printf("%5zu %16lu  %8.4f %22lu  %8.4f\n", i, (unsigned long)found->rows[i],
@@ -100,7 +104,7 @@ static void search_all(
 
 /* Says what is answered; it must be this number. */
 static void say(const char *what, uint32_t answer, uint32_t expected) {
-    printf("  %-34s %2lu  %s\n", what, (unsigned long)answer, meaning(answer));
+    printf("  %-34s %2lu  %s\n", what, (unsigned long)answer, bergrosk_meaning(answer));
     must(what, answer, expected);
 }
 
@@ -136,10 +140,10 @@ static void refused_trainings(plain_index *index, float *rows, const double *dra
 
     float kept = rows[17 * D];
     rows[17 * D] = NAN;
-    say("a NaN in row 17", train(index, rows, draws, DRAWS).number, 6);
+    say("a NaN in row 17", train(index, rows, draws, enough_draws()).number, 6);
     rows[17 * D] = kept;
     index->len.subs--;
-    say("sub-centres lent one float short", train(index, rows, draws, DRAWS).number, 4);
+    say("sub-centres lent one float short", train(index, rows, draws, enough_draws()).number, 4);
     index->len.subs++;
 
     must_hold("the index is unchanged", memcmp(subs, index->subs, subs_size) == 0
@@ -162,16 +166,18 @@ static void stopped_training(plain_index *index, const float *rows, const double
 }
 
 int main(void) {
+    must_round_rightly();
     float *clusters = new_points(CLUSTERS, D);
     float *rows = new_points_near(clusters, CLUSTERS, ROWS, D);
     float *queries = new_points_near(clusters, CLUSTERS, QUERIES, D);
-    double *draws = new_draws(DRAWS);
+    double *draws = new_draws(enough_draws());
     uint8_t *mask = new_mask(ROWS, TENANTS, 2);
 
     plain_index index = new_index();
-    bergrosk_train_answer answer = train(&index, rows, draws, DRAWS);
+    bergrosk_train_answer answer = train(&index, rows, draws, enough_draws());
     must("the training", answer.number, 0);
-    printf("training: %s, %zu of %d draws used\n", meaning(answer.number), answer.used, (int)DRAWS);
+    printf("training: %s, %zu of %zu draws used\n", bergrosk_meaning(answer.number), answer.used,
+        enough_draws());
     printf("%d rows of %d bytes became codes of %d bytes\n", (int)ROWS, (int)(D * sizeof(float)),
         (int)N_SUB);
 
