@@ -1,5 +1,7 @@
 // How each operation ends, and document 01's number and values for each end. An answer is an enum; what it says to a caller who
 // knows numbers alone, the number and the values that go with it, stands beside it as a struct that C can read.
+#![tactic(auto)]
+
 ghost use Rattle.std.specs.Prelude.{◌≡◌};
 ghost use Rattle.answers.specs.Answers.{step_number, no_place, place_at, train_said, search_said, check_said, staged};
 

@@ -1,5 +1,7 @@
 // The face: each entry point once more as a function that C calls, its answer in numbers. include/bergrosk.h declares it.
 // A slice arrives as a pointer and a length. No function asks anything of what it is lent.
+#![tactic(auto)]
+
 ghost use Rattle.std.specs.Prelude.{◌≡◌};
 ghost use Rattle.pq_params.specs.Defaults.{plain_default, celled_default};
 ghost use Rattle.pq_params.specs.Lengths.{plain_lengths, celled_lengths};

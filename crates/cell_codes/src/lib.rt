@@ -1,4 +1,6 @@
 // The rows of one cell: which of them are visible, and step 3's test of their codes.
+#![tactic(auto)]
+
 ghost use Rattle.std.specs.Prelude.{◌≡◌, false, not, ◌+◌, ◌*◌, ◌≤◌, ◌<◌, eqb, length};
 ghost use Rattle.lists.specs.Tests.{every, keep};
 ghost use Rattle.pq_params.specs.Bounds.{bad_plain};

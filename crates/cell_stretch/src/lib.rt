@@ -1,5 +1,7 @@
 // One stretch of a cell's rows, at most 64: the visible ones are picked, their sums are worked out together, and they are offered to the
 // results in their order. Hidden rows' codes are never looked up.
+#![tactic(auto)]
+
 ghost use Rattle.std.specs.Prelude.{◌≡◌, cond};
 ghost use Rattle.lists.specs.Lists.{member_of};
 ghost use Rattle.neighbor.specs.Gathered.{runs, Gathered};

@@ -1,4 +1,6 @@
 // Step 5 of a search in one cell: the sums of picked rows by the cell's table, four at a time.
+#![tactic(auto)]
+
 ghost use Rattle.std.specs.Prelude.{◌≡◌, ◌++◌, ◌+◌, ◌≤◌, ◌<◌, length, drop};
 ghost use Rattle.lists.specs.Lists.{tab};
 ghost use Rattle.cell_sums.specs.SumsInner.{table_term, table_sum, Coded, term_at, FourCoded, four_of, four_from, four_more, four_stored};

@@ -1,4 +1,6 @@
 // Step 4 of a search in one cell: the table of distances from the query to the cell's sub-centres.
+#![tactic(auto)]
+
 ghost use Rattle.std.specs.Prelude.{◌≡◌, ◌*◌, ◌<◌, length};
 ghost use Rattle.metrics.specs.Distance.{value_in};
 ghost use Rattle.cell_table.specs.Tables.{query_for, entry_of};
@@ -89,7 +91,7 @@ fn fill_subs(
     0
 }
 
-// The table of one cell, entry (s, q) at typeof.s.K + q: distances of the query, less the cell's coarse centre if the index is celled, to the
+// The table of one cell, entry (s, q) at s·K + q: distances of the query, less the cell's coarse centre if the index is celled, to the
 // cell's sub-centres. 0, or 11 at the first entry that is not finite; then the table is zero.
 pub fn fill_table(
     z: CellNumbers,

@@ -1,4 +1,6 @@
 // The search in one cell: its table, then its rows, a stretch at a time, into the results by way of a batch.
+#![tactic(auto)]
+
 ghost use Rattle.std.specs.Prelude.{◌≡◌, ◌+◌, ◌≤◌, ◌<◌, length};
 ghost use Rattle.lists.specs.Lists.{member_of};
 ghost use Rattle.neighbor.specs.Held.{Held};

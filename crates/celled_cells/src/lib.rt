@@ -1,4 +1,6 @@
 // The cells of a celled training, rising: the sub-centres of each from its list, less its coarse centre, draws running through.
+#![tactic(auto)]
+
 ghost use Rattle.celled_cells.specs.CellsInner.{given_by, CellsHeld, ListHeld, CellLent, CellTrained, CellAt, CellPlaced};
 ghost use Rattle.celled_cells.specs.CellsInner.{CellsLent, CellsTrained};
 

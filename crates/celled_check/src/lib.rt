@@ -1,5 +1,7 @@
 // The whole check of a celled index: refusals first, then one walk each of the starts, the cells' lists, the members and the codes.
 // While it runs, the lent work holds how often each row number stands in the members.
+#![tactic(auto)]
+
 ghost use Rattle.std.specs.Prelude.{true, ◌≡◌, [], ◌≤◌, length};
 ghost use Rattle.lists.specs.Tests.{every};
 ghost use Rattle.celled_lists.specs.Lists.{starts_sound, is_below};

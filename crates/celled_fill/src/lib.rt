@@ -1,5 +1,7 @@
 // Filling against given centres: from the coarse centres the cell of each row and the lists; from these and the sub-centres the codes of
 // each row.
+#![tactic(auto)]
+
 ghost use Rattle.std.specs.Prelude.{◌≡◌, ◌<◌, length};
 ghost use Rattle.lists.specs.Lists.{tab};
 ghost use Rattle.celled_fill.specs.Fill.{cell_at, filled_codes};

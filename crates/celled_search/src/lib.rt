@@ -1,5 +1,7 @@
 // IVFPQIndex's search: refusals first, then document 01's five steps. In refusals 10 and 11 the results are blank, and the table is
 // zero at every end but that of tests 1 to 6.
+#![tactic(auto)]
+
 ghost use Rattle.std.specs.Prelude.{◌≡◌, length};
 ghost use Rattle.pq_params.specs.Lengths.{table_long};
 ghost use Rattle.cell_walk.specs.Results.{search_out, lent};

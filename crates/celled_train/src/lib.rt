@@ -1,4 +1,6 @@
 // Celled training: coarse k-means over all rows, the lists, the sub-centres of each cell, and the code of each row.
+#![tactic(auto)]
+
 ghost use Rattle.std.specs.Prelude.{◌≡◌, ◌*◌, length};
 ghost use Rattle.celled_lists.specs.Index.{index_of};
 ghost use Rattle.celled_train.specs.Outcome.{train_in, train_out, train_ended, train_outcome};

@@ -1,5 +1,7 @@
 // Runs document 01's examples of the plain index, and their neighbours, through our training and search, and prints how many come out
 // as document 01 says.
+#![tactic(auto)]
+
 mod odd;
 mod searches;
 mod trainings;

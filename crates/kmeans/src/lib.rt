@@ -1,5 +1,7 @@
 // k-means on one range of the coordinates, with or without a residual, over all rows or over a list of them: steps 1 to 5 in turn.
 // The centres are a lent stretch of a flat buffer; each row's centre and each centre's rows stand in lent runs of numbers.
+#![tactic(auto)]
+
 ghost use Rattle.std.specs.Prelude.{◌≡◌, ◌*◌, ◌≤◌, length};
 ghost use Rattle.kmeans_assign.specs.Task.{Framed, task_of, row_task};
 ghost use Rattle.kmeans_split.specs.Run.{run_of, Reached};

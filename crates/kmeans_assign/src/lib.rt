@@ -1,4 +1,6 @@
 // What one k-means is given, and its step 3: the centre of each row, over all rows or over a list of them.
+#![tactic(auto)]
+
 ghost use Rattle.std.specs.Prelude.{◌≡◌, ◌+◌, ◌*◌, ◌≤◌, ◌<◌, length};
 ghost use Rattle.lists.specs.Lists.{Part, member_of};
 ghost use Rattle.metrics.specs.Distance.{value_in};

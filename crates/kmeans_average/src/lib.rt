@@ -1,4 +1,6 @@
 // k-means' step 4: each centre becomes the average of its rows; and the test for 9, that centres are finite.
+#![tactic(auto)]
+
 ghost use Rattle.std.specs.Prelude.{◌≡◌, ◌+◌, ◌*◌, ◌≤◌, ◌<◌, length, get_or, set};
 ghost use Rattle.lists.specs.Lists.{tab, fill, part, put_part, grid};
 ghost use Rattle.metrics.specs.Distance.{zero32};

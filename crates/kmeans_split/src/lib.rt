@@ -1,4 +1,6 @@
 // k-means' step 5: each empty centre is split off a donor that the draws choose.
+#![tactic(auto)]
+
 ghost use Rattle.std.specs.Prelude.{◌≡◌, cond, List, [], ℕ, ◌+◌, ◌*◌, ◌%◌, ◌≤◌, ◌<◌, length, get_or, eqb, pos};
 ghost use Rattle.std.specs.Float.Ieee.{mul, div, of_int};
 ghost use Rattle.std.specs.Float.{binary32, binary64};

@@ -1,4 +1,6 @@
 // k-means' step 1: every centre is the mean of the rows, moved by one up or down.
+#![tactic(auto)]
+
 ghost use Rattle.std.specs.Prelude.{◌≡◌, ◌+◌, ◌*◌, ◌≤◌, length, if◌then◌else◌};
 ghost use Rattle.std.specs.Float.Ieee.{add, sub};
 ghost use Rattle.std.specs.Float.{binary32};

@@ -1,4 +1,6 @@
 // Flat lent buffers: a part of one, and fills. Vectors of vectors are flat here, and a row, a centre or a code is a part at an offset.
+#![tactic(auto)]
+
 ghost use Rattle.std.specs.Prelude.{◌≡◌, true, ◌+◌, ◌*◌, ◌≤◌, ◌<◌, min, length};
 ghost use Rattle.lists.specs.Lists.{Part, fill, member_of};
 

@@ -1,4 +1,6 @@
 // The squared Euclidean distance of one range, each operation rounding once, and the finite test.
+#![tactic(auto)]
+
 ghost use Rattle.std.specs.Prelude.{◌≡◌, length};
 ghost use Rattle.std.specs.Float.Ieee.Scale.{finite};
 ghost use Rattle.lists.specs.Tests.{every};

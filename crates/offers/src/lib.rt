@@ -1,4 +1,6 @@
 // Candidates that stand in two runs are offered to the results one after the other, by way of the batch.
+#![tactic(auto)]
+
 ghost use Rattle.std.specs.Prelude.{◌≡◌, ◌≤◌, ◌<◌, length};
 ghost use Rattle.lists.specs.Tests.{every};
 ghost use Rattle.neighbor.specs.Held.{held_at, held};

@@ -1,4 +1,6 @@
 // Search of the plain index: the tests, then the one cell of all rows.
+#![tactic(auto)]
+
 ghost use Rattle.std.specs.Prelude.{◌≡◌};
 ghost use Rattle.cell_walk.specs.Results.{search_out, lent};
 ghost use Rattle.plain_search.specs.Outcome.{search_in, whole_cell, search_worked, search_outcome};

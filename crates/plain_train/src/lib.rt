@@ -1,4 +1,6 @@
 // Training of the plain index: one list of all rows, without residual; then the code of each row.
+#![tactic(auto)]
+
 ghost use Rattle.std.specs.Prelude.{◌≡◌};
 ghost use Rattle.lists.specs.Lists.{grid};
 ghost use Rattle.plain_train.specs.Outcome.{train_in, train_out, train_ended, train_outcome};

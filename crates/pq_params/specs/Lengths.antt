@@ -7,7 +7,7 @@ use Rattle.pq_params.specs.declared.CelledLengths.{CelledLengths}
 use Rattle.pq_params.specs.Bounds.{bad_plain, bad_celled, too_many_rows, centers_of}
 use Rattle.pq_params.specs.Ranges.{covered_of}
 
--- the sub-centres of one cell: K-as-C
+-- the sub-centres of one cell: K·C
 abbrev pub subs_long : Shape → ℕ
 subs_long s = centers_of s.bits * covered_of s.d s.nsub
 

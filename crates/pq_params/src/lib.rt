@@ -1,4 +1,6 @@
 // The numbers of an index with the Rust's defaults, their bounds, the range rule, the lengths of the buffers, and the tests of rows and draws.
+#![tactic(auto)]
+
 ghost use Rattle.std.specs.Prelude.{◌≡◌, false, ◌≤◌};
 ghost use Rattle.pq_params.specs.Defaults.{plain_default, celled_default};
 ghost use Rattle.pq_params.specs.Bounds.{bad_range, bad_plain, bad_celled, bad_epochs, too_many_rows, too_many_draws, too_much_asked, centers_of};

@@ -1,4 +1,6 @@
 // Training of one list of rows, all rows or those of a cell: its sub-centres, and the codes of its rows.
+#![tactic(auto)]
+
 ghost use Rattle.std.specs.Prelude.{◌≡◌, false, ◌+◌, ◌*◌, ◌≤◌, ◌<◌, length};
 ghost use Rattle.lists.specs.Lists.{part, put_part, tab};
 ghost use Rattle.pq_params.specs.Bounds.{bad_plain};

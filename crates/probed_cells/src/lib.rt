@@ -1,4 +1,6 @@
 // The probed cells of a celled index: the list of each, step 3's tests over all of them, and steps 4 and 5, cell by cell in probe order.
+#![tactic(auto)]
+
 ghost use Rattle.std.specs.Prelude.{◌≡◌, true, suc, ◌+◌, ◌-◌, ◌<◌, length};
 ghost use Rattle.lists.specs.Lists.{Part};
 ghost use Rattle.lists.specs.Tests.{every};

@@ -1,5 +1,7 @@
 // Replays the recorded celled indexes of the Rust through our training, check and search, and prints how many agree. data/celled.bin is
 // what the oracle's command `record` writes, from the Rust's own answers; oracle/README.md has its layout.
+#![tactic(auto)]
+
 mod kind_celled;
 mod place;
 

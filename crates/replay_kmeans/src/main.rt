@@ -1,5 +1,7 @@
 // Replays the recorded k-means of the Rust, and document 01's worked examples, through our code, and prints how many agree.
 // data/kmeans.bin is what the oracle's command `record` writes, from the Rust's own answers; oracle/README.md has its layout.
+#![tactic(auto)]
+
 mod buffers;
 mod checked;
 mod examples;

@@ -1,5 +1,7 @@
 // Replays the recorded plain indexes of the Rust through our training and search, and prints how many agree. data/plain.bin is what the
 // oracle's command `record` writes, from the Rust's own answers; oracle/README.md has its layout.
+#![tactic(auto)]
+
 mod kind_plain;
 
 use lending::tally;
