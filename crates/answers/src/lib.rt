@@ -6,7 +6,7 @@ ghost use Rattle.std.specs.Prelude.{◌≡◌};
 ghost use Rattle.answers.specs.Answers.{step_number, no_place, place_at, train_said, search_said, check_said, staged};
 
 // Where a centre coordinate came out not finite.
-#[derive(Drop)]
+#[derive(Clone, Copy)]
 pub enum Step {
     Start,
     Averaging,
@@ -14,7 +14,7 @@ pub enum Step {
 }
 
 // How a k-means ends: the number of draws used so far, or the refusal with its place.
-#[derive(Drop)]
+#[derive(Clone, Copy)]
 pub enum Clustered {
     Done(usize),
     OutOfDraws { epoch: u32, center: u32 },
@@ -22,14 +22,14 @@ pub enum Clustered {
 }
 
 // Which k-means of a training: the coarse one, or that of a sub-space of a cell (plain: cell 0).
-#[derive(Drop)]
+#[derive(Clone, Copy)]
 pub enum Stage {
     Coarse,
     Sub { cell: u32, sub: u32 },
 }
 
 // How a training ends: the draws used, refusal 1 to 7, or refusal 8 or 9 with its place.
-#[derive(Drop)]
+#[derive(Clone, Copy)]
 pub enum Trained {
     Done(usize),
     Refused(u32),
@@ -47,14 +47,14 @@ pub enum Trained {
 }
 
 // How a search ends: the places filled and the number of candidates, or the refusal.
-#[derive(Drop)]
+#[derive(Clone, Copy)]
 pub enum Searched {
     Done { found: usize, scored: usize },
     Refused(u32),
 }
 
 // What the whole check answers.
-#[derive(Drop)]
+#[derive(Clone, Copy)]
 pub enum Checked {
     Accepted,
     Refused(u32),
@@ -62,7 +62,7 @@ pub enum Checked {
 
 // Where a training was refused with 8 or 9; all zero in every other answer.
 #[repr(C)]
-#[derive(Drop)]
+#[derive(Clone, Copy)]
 pub struct Place {
     pub stage: u32,
     pub cell: u32,
@@ -74,7 +74,7 @@ pub struct Place {
 
 // What a training says: its number, the place of an 8 or 9, and the draws used by a training that succeeds.
 #[repr(C)]
-#[derive(Drop)]
+#[derive(Clone, Copy)]
 pub struct TrainAnswer {
     pub number: u32,
     pub place: Place,
@@ -83,7 +83,7 @@ pub struct TrainAnswer {
 
 // What a search says: its number, the places filled, and the number of candidates.
 #[repr(C)]
-#[derive(Drop)]
+#[derive(Clone, Copy)]
 pub struct SearchAnswer {
     pub number: u32,
     pub found: usize,

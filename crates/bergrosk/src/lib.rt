@@ -20,7 +20,7 @@ use pq_params::{CelledLengths, CelledShape, IVFPQParams, PQParams, PlainLengths,
 
 // One range: refusal 1 or 0, and its begin and end.
 #[repr(C)]
-#[derive(Drop)]
+#[derive(Clone, Copy)]
 pub struct RangeAnswer {
     pub number: u32,
     pub begin: usize,

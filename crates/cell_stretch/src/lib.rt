@@ -11,7 +11,7 @@ ghost use Rattle.cell_stretch.specs.StretchInner.{Ready, sums_of, Stretch, Picki
 use cell_table::CellNumbers;
 
 // How the walk goes on after a stretch: what the results hold, what waits in the batch, and how many rows were offered. Or the refusal.
-#[derive(Drop)]
+#[derive(Clone, Copy)]
 pub enum Step {
     Went {
         found: usize,

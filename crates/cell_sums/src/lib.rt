@@ -9,7 +9,7 @@ ghost use Rattle.cell_sums.specs.SumsInner.{picked_at, AllCoded, worked_all, Sum
 use metrics::Worked;
 
 // Four values side by side.
-#[derive(Drop)]
+#[derive(Clone, Copy)]
 pub struct Four {
     pub a: f32,
     pub b: f32,
@@ -18,7 +18,7 @@ pub struct Four {
 }
 
 // Four row numbers, or four places.
-#[derive(Drop)]
+#[derive(Clone, Copy)]
 pub struct FourRows {
     pub a: usize,
     pub b: usize,

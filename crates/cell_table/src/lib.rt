@@ -10,7 +10,7 @@ use metrics::Worked;
 use pq_params::Shape;
 
 // The numbers of one cell: those of its index, whether the index is celled, the cell's number (plain: 0), and how many rows it has.
-#[derive(Drop)]
+#[derive(Clone, Copy)]
 pub struct CellNumbers {
     pub shape: Shape,
     pub celled: bool,

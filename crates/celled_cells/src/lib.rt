@@ -9,7 +9,7 @@ use pq_params::CelledShape;
 use pq_train::RowList;
 
 // The numbers of a celled training: the index's, the epochs and the rows.
-#[derive(Drop)]
+#[derive(Clone, Copy)]
 pub struct Celled {
     pub shape: CelledShape,
     pub epochs: u32,

@@ -11,7 +11,7 @@ use metrics::Worked;
 
 // What one k-means goes over: w coordinates from begin on, of n rows of d coordinates, which stand in a list or are all rows;
 // whether a residual is taken off; and the number of centres.
-#[derive(Drop)]
+#[derive(Clone, Copy)]
 pub struct Frame {
     pub d: usize,
     pub begin: usize,

@@ -5,7 +5,7 @@ ghost use Rattle.lending.specs.Tally.{more_of, counted_of};
 use libc::STDOUT_FILENO;
 
 // The cases so far, and those of them that agree.
-#[derive(Drop)]
+#[derive(Clone, Copy)]
 pub struct Tally {
     pub agree: u64,
     pub of: u64,

@@ -7,7 +7,7 @@ ghost use Rattle.lists.specs.Tests.{every};
 ghost use Rattle.metrics.specs.Distance.{value_of, value_in, coordinate_in, finite_in, worked, distance};
 
 // A worked distance: a finite sum, or the mark that it is not finite.
-#[derive(Drop)]
+#[derive(Clone, Copy)]
 pub enum Worked {
     Finite(f32),
     NotFinite,

@@ -10,7 +10,7 @@ ghost use Rattle.pq_params.specs.Refusals.{any_not_finite, any_draw_out, train_t
 
 // The plain index's parameters.
 #[repr(C)]
-#[derive(Drop)]
+#[derive(Clone, Copy)]
 pub struct PQParams {
     pub n_sub: usize,
     pub sub_bits: usize,
@@ -32,7 +32,7 @@ impl PQParams {
 
 // The celled index's parameters: the plain ones, the number of cells and how many of them a search probes.
 #[repr(C)]
-#[derive(Drop)]
+#[derive(Clone, Copy)]
 pub struct IVFPQParams {
     pub n_sub: usize,
     pub sub_bits: usize,
@@ -57,7 +57,7 @@ impl IVFPQParams {
 }
 
 // The numbers of a plain index: D coordinates, n_sub sub-spaces, sub_bits bits a code.
-#[derive(Drop)]
+#[derive(Clone, Copy)]
 pub struct Shape {
     pub d: usize,
     pub nsub: usize,
@@ -65,7 +65,7 @@ pub struct Shape {
 }
 
 // The numbers of a celled index: those of its sub-spaces, the cells, and how many of them a search probes.
-#[derive(Drop)]
+#[derive(Clone, Copy)]
 pub struct CelledShape {
     pub plain: Shape,
     pub cells: usize,
@@ -210,7 +210,7 @@ pub fn table_long(s: Shape) -> usize
 
 // The lengths of a plain index's buffers, in elements. The number is 0, or the refusal of the numbers and n; then all lengths are 0.
 #[repr(C)]
-#[derive(Drop)]
+#[derive(Clone, Copy)]
 pub struct PlainLengths {
     pub number: u32,
     pub rows: usize,
@@ -266,7 +266,7 @@ pub fn plain_lengths(s: Shape, n: usize) -> PlainLengths
 
 // The lengths of a celled index's buffers, in elements. The number is 0, or the refusal of the numbers and n; then all lengths are 0.
 #[repr(C)]
-#[derive(Drop)]
+#[derive(Clone, Copy)]
 pub struct CelledLengths {
     pub number: u32,
     pub rows: usize,

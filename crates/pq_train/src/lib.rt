@@ -15,7 +15,7 @@ use pq_params::Shape;
 
 // One list of rows to train: the index's numbers and the epochs, the cell, whether the rows stand in a list or are all rows, whether
 // a residual is taken off, and how many rows there are.
-#[derive(Drop)]
+#[derive(Clone, Copy)]
 pub struct RowList {
     pub shape: Shape,
     pub epochs: u32,

@@ -4,7 +4,7 @@ use recorded::layout;
 use recorded::layout::{after, count};
 
 // The numbers before the lists.
-#[derive(Drop)]
+#[derive(Clone, Copy)]
 pub(crate) struct Numbers {
     pub(crate) shape: CelledShape,
     pub(crate) epochs: usize,
@@ -14,7 +14,7 @@ pub(crate) struct Numbers {
 }
 
 // Where each list after the rows begins, in words, and the answer begins with the draws used.
-#[derive(Drop)]
+#[derive(Clone, Copy)]
 pub(crate) struct Offsets {
     pub(crate) draws: usize,
     pub(crate) used: usize,

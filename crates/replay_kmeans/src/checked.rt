@@ -3,7 +3,7 @@ use answers::Clustered;
 use kmeans_assign::Frame;
 
 // How a checked step ends.
-#[derive(Drop)]
+#[derive(Clone, Copy)]
 pub(crate) enum Ran {
     Unfit,
     Ended(Clustered),

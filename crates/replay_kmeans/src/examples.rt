@@ -8,7 +8,7 @@ use recorded::layout::product;
 
 // Rows of two coordinates, the number of centres, the epochs, whether a split follows, how many of the draws 0.0, 0.25, 0.5, 0.4 are lent;
 // and what comes out: the answer's number, the draws used, the centres, how many rows each has, and the last assignment.
-#[derive(Drop)]
+#[derive(Clone, Copy)]
 pub(crate) struct Example {
     pub rows: [f32; 10],
     pub n: usize,

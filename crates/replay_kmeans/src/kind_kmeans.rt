@@ -6,7 +6,7 @@ use lending::parts;
 use recorded::layout::{after, count, product};
 
 // The numbers before the lists.
-#[derive(Drop)]
+#[derive(Clone, Copy)]
 pub(crate) struct Numbers {
     pub d: usize,
     pub n: usize,
@@ -20,7 +20,7 @@ pub(crate) struct Numbers {
 }
 
 // Where each list after the rows begins, in words, the answer begins with the draws used, and the body ends.
-#[derive(Drop)]
+#[derive(Clone, Copy)]
 pub(crate) struct Offsets {
     pub members: usize,
     pub residual: usize,

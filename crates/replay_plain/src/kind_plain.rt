@@ -6,7 +6,7 @@ use recorded::layout::{after, count};
 use recorded::{compare, layout};
 
 // The numbers before the lists.
-#[derive(Drop)]
+#[derive(Clone, Copy)]
 struct Numbers {
     shape: Shape,
     epochs: usize,
@@ -16,7 +16,7 @@ struct Numbers {
 }
 
 // Where each list after the rows begins, in words, and the answer begins with the draws used.
-#[derive(Drop)]
+#[derive(Clone, Copy)]
 struct Offsets {
     draws: usize,
     used: usize,
