@@ -28,12 +28,13 @@ returns-in_default c =
     let a = c.args in
     let f = distance_at a.x.now a.residual.now a.has a.centers.now (length a.x.now) in
     let e : worked (f c.loop-q.q) ≡ NotFinite =
-    sym (stretch-distance _ _ _ _ _ c.stretch-c.ensures) ∙ sym c.distance-d.ensures ∙ c.enum_told-1.given.1 in
+    sym (stretch-distance _ _ _ _ _ c.stretch-c.ensures) ∙ sym c.in_default.ensures in
     record { answer = mark-number f a.n c.loop-q.q (search rules) e; entries = λ z. absurd (omega arith) }
 
 pub loop-q-preserved : goal.loop-q-preserved
 loop-q-preserved c =
-    let e = sym (stretch-distance _ _ _ _ _ c.stretch-c.ensures) ∙ sym c.distance-d.ensures ∙ c.d-1.given.1 in (
+    let e = sym (stretch-distance _ _ _ _ _ c.stretch-c.ensures) ∙ sym c.in-Finite.ensures in (
+      search rules,
       search rules,
       below_more _ _ c.loop-q.invariant.2 (unmarked _ _ e),
       tab-step _ _ _ _ _ nan (search rules) c.loop-q.invariant.3 (carried _ _ e),

@@ -13,22 +13,22 @@ pub part-x-requires : goal.part-x-requires
 part-x-requires c =
     let a = c.args in
     let p = c.requires in
-    rw (c.range_begin-begin.ensures, c.range_width-w.ensures, p.0.query-long)
-    (range-in a.z a.s p.1 p.0.range)
+    rw (c.range_begin-begin.ensures, c.range_width-w.ensures, p.parts.query-long)
+    (range-in a.z a.s p.s_lt_nsub p.parts.range)
 
 pub part-less-requires : goal.part-less-requires
 part-less-requires c =
     let a = c.args in
     let p = c.requires in
-    rw (c.range_begin-begin.ensures, c.range_width-w.ensures, p.0.residual-long)
-    (range-in a.z a.s p.1 p.0.range)
+    rw (c.range_begin-begin.ensures, c.range_width-w.ensures, p.parts.residual-long)
+    (range-in a.z a.s p.s_lt_nsub p.parts.range)
 
 pub overflow_mul-centers : goal.overflow_mul-centers
 overflow_mul-centers c =
     let a = c.args in
     let p = c.requires in
     let h : a.centers * c.range_begin-begin.result + a.centers * c.range_width-w.result ≤ length a.subs.now =
-    rw (c.range_begin-begin.ensures, c.range_width-w.ensures, p.0.subs-long) (centers-in a.z a.s p.1 a.centers) in
+    rw (c.range_begin-begin.ensures, c.range_width-w.ensures, p.parts.subs-long) (centers-in a.z a.s p.s_lt_nsub a.centers) in
     search rules
 
 pub overflow_mul-centers-2 : goal.overflow_mul-centers-2
@@ -36,14 +36,14 @@ overflow_mul-centers-2 c =
     let a = c.args in
     let p = c.requires in
     let h : a.centers * c.range_begin-begin.result + a.centers * c.range_width-w.result ≤ length a.subs.now =
-    rw (c.range_begin-begin.ensures, c.range_width-w.ensures, p.0.subs-long) (centers-in a.z a.s p.1 a.centers) in
+    rw (c.range_begin-begin.ensures, c.range_width-w.ensures, p.parts.subs-long) (centers-in a.z a.s p.s_lt_nsub a.centers) in
     search rules
 
 pub part-c-requires : goal.part-c-requires
 part-c-requires c =
     let a = c.args in
     let p = c.requires in
-    rw (c.range_begin-begin.ensures, c.range_width-w.ensures, p.0.subs-long) (centers-in a.z a.s p.1 a.centers)
+    rw (c.range_begin-begin.ensures, c.range_width-w.ensures, p.parts.subs-long) (centers-in a.z a.s p.s_lt_nsub a.centers)
 
 pub overflow_mul-a : goal.overflow_mul-a
 overflow_mul-a c =

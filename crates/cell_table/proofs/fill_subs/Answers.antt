@@ -29,6 +29,7 @@ loop-s-preserved c =
     let a = c.args in
     let f = stretch_entry a.z a.centers (value_in a.has a.query.now a.residual.now) a.subs.now in (
       search rules,
+      search rules,
       below_more _ _ c.loop-s.invariant.2 (sub-finite f a.z.nsub a.centers c.loop-s.s _ c.fill_sub-refusal.ensures.answer c.if-refusal-ne0.false),
       c.fill_sub-refusal.ensures.entries c.if-refusal-ne0.false ∙ grid-step _ _ _ _ _ _ c.loop-s.invariant.3 refl,
     )
