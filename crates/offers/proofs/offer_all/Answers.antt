@@ -39,11 +39,5 @@ returns-then-all_behind c =
     let q : a.found ≡ length a.rows.now = eqb-true _ _ (and_r (ltb 0 a.found) (eqb a.found (length a.rows.now)) t) in
     skipped (runs a.rows.now a.sums.now a.found a.batch_rows.now a.batch_sums.now a.waiting) (a.found - 1) (omega arith) q a.picked.now a.picked_sums.now a.n (sym c.all_behind.ensures ∙ c.if-all_behind.true)
 
-pub offer_each-requires : goal.offer_each-requires
-offer_each-requires c = (
-  c.requires.gathered,
-  c.requires.stands,
-)
-
 pub returns : goal.returns
 returns c = c.offer_each.ensures
