@@ -1,5 +1,5 @@
 -- What the steps of the walk promise to one another: of the rows g 0, g 1, .. of a cell, which v shows, and whose sums are f.
-use Rattle.std.specs.Prelude.{ℕ, ◌+◌, ◌≡◌, Bool, true, cond, List, [], ◌++◌, map, length, take, drop, Float}
+use Rattle.std.specs.Prelude.{ℕ, ◌≡◌, Bool, true, cond, List, [], ◌++◌, map, length, take, drop, Float}
 use Rattle.lists.specs.Lists.{tab, fill}
 use Rattle.lists.specs.Tests.{keep}
 use Rattle.metrics.specs.Distance.{zero32}

@@ -18,7 +18,7 @@ use Rattle.cell_table.specs.Tables.{Cell}
 use Rattle.cell_codes.specs.Codes.{codes_sound}
 use Rattle.cell_codes.specs.CodesInner.{Rows}
 use Rattle.cell_walk.specs.Candidates.{cell_finite}
-use Rattle.cell_walk.specs.Results.{Lent, lent, search_out, asked_of, blank}
+use Rattle.cell_walk.specs.Results.{Lent, lent, search_out, asked_of}
 use Rattle.cell_walk.specs.CellInner.{cell_of, Searching, cell_outcome}
 use Rattle.cell_walk.proofs.Cells.{length-rows, holding-none, holding-next, cell-refused}
 use Rattle.plain_search.specs.Outcome.{SearchIn, whole_cell, search_worked}

@@ -3,10 +3,7 @@ use Prim.Native.Nat.{ℕ}
 use mathlib.Core.Path.{◌≡◌, sym, ◌∙◌}
 use mathlib.Core.List.{List}
 use lib.Ieee.{Float}
-use Rattle.pq_params.specs.declared.Shape.{Shape}
 use Rattle.pq_params.specs.declared.CelledShape.{CelledShape}
-use Rattle.cell_table.specs.TablesInner.{Tabled}
-use Rattle.cell_sums.specs.SumsInner.{Summed}
 use Rattle.celled_lists.specs.Inner as Lists
 use Rattle.celled_fill.specs.FillInner as Fill
 use Rattle.celled_probe.specs.ProbeInner.{Probed}

@@ -1,8 +1,7 @@
 -- Laws on the training of one list: its frames are k-means' frames, its k-means those of document 01's sub-spaces, and the walk of the sub-spaces.
 use Prim.Native.Nat.{ℕ, zero, suc, ◌+◌, ◌*◌, ◌≤◌, ◌<◌}
 use mathlib.Core.Path.{◌≡◌, refl, sym, ◌∙◌, ap, subst}
-use mathlib.Core.List.{List, [], ◌∷◌}
-use mathlib.Core.Logic.{inl, inr}
+use mathlib.Core.List.{List}
 use mathlib.Core.Bool.{false}
 use native.Mathlib.Nat.{add_assoc, le_of_lt, mul-add, mul-zero, mul-le-mul_left, mul-le-mul_right}
 use native.Mathlib.Decide.{dec_le}

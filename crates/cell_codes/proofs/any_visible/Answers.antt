@@ -1,9 +1,7 @@
 -- `any_visible`: every row passed is hidden.
 use borrow.Author.Rules.{rules}
 use borrow.Author.Count.{below_more}
-use Prim.Native.Nat.{◌-◌}
 use mathlib.Core.Path.{sym, ◌∙◌, ap}
-use mathlib.Core.Bool.{false}
 use native.Mathlib.Omega.{arith}
 use Rattle.lists.specs.Lists.{member_of}
 use Rattle.cell_codes.specs.Codes.{visible}

@@ -1,5 +1,4 @@
 -- `highest`: the highest of the codes passed.
-use Prim.Native.Nat.{◌-◌}
 use borrow.Author.Rules.{rules}
 use lib.ListN.{length}
 use mathlib.Core.Path.{◌≡◌, refl, ◌∙◌, ap}

@@ -1,4 +1,4 @@
-use Prim.Native.Nat.{◌+◌, ◌-◌, ◌≤◌}
+use Prim.Native.Nat.{◌+◌, ◌≤◌}
 use lib.ListN.{length, take}
 use mathlib.Core.Path.{◌≡◌}
 use Rattle.lists.specs.Lists.{member_of}

@@ -1,4 +1,4 @@
-use Prim.Native.Nat.{ℕ, ◌-◌, ◌≤◌}
+use Prim.Native.Nat.{ℕ, ◌≤◌}
 use mathlib.Core.Path.{◌≡◌}
 use Rattle.metrics.specs.Distance.{sum_to}
 use Rattle.cell_sums.specs.SumsInner.{table_term}

@@ -1,5 +1,4 @@
 -- `row_sum`: the sum of the entries passed.
-use Prim.Native.Nat.{◌-◌}
 use borrow.Author.Rules.{rules}
 use mathlib.Core.Path.{◌≡◌, refl, ◌∙◌, ap}
 use native.Mathlib.Numerals.{add-one}

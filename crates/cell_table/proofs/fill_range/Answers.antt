@@ -9,7 +9,6 @@ use Rattle.lists.proofs.Joins.{within}
 use Rattle.lists.proofs.Tables.{tab-none, tab-step, tab-done}
 use lib.Ieee.{nan}
 use borrow.Author.Count.{below_more}
-use Prim.Native.Nat.{◌-◌}
 use mathlib.Core.Path.{◌≡◌, sym, ◌∙◌}
 use native.Mathlib.Omega.{arith}
 use lib.ListN.{length}

@@ -2,7 +2,7 @@ use Rattle.cell_table.specs.TablesInner.{finite_at, distance_at}
 use Rattle.lists.specs.Lists.{tab}
 use mathlib.Core.List.{◌++◌}
 use mathlib.Core.Bool.{true}
-use Prim.Native.Nat.{ℕ, ◌+◌, ◌-◌, ◌≤◌, ◌<◌}
+use Prim.Native.Nat.{ℕ, ◌≤◌, ◌<◌}
 use mathlib.Core.Path.{◌≡◌}
 use lib.ListN.{length, drop}
 use Rattle.cell_table.proofs.fill_range.Given as goal

@@ -6,8 +6,6 @@ use Rattle.cell_table.specs.TablesInner.{stretch_entry}
 use Rattle.metrics.specs.Distance.{value_in}
 use Rattle.lists.proofs.Joins.{grid-none, grid-step, grid-done}
 use borrow.Author.Count.{below_more}
-use mathlib.Core.Bool.{true}
-use Prim.Native.Nat.{◌-◌}
 use mathlib.Core.Path.{refl, ◌∙◌}
 use native.Mathlib.Omega.{arith}
 use Rattle.cell_table.proofs.fill_subs.Goals as goal

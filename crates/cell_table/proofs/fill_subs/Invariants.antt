@@ -4,7 +4,7 @@ use Rattle.metrics.specs.Distance.{value_in}
 use Rattle.lists.specs.Lists.{grid}
 use mathlib.Core.List.{◌++◌}
 use mathlib.Core.Bool.{true}
-use Prim.Native.Nat.{ℕ, ◌+◌, ◌*◌, ◌-◌, ◌≤◌, ◌<◌}
+use Prim.Native.Nat.{ℕ, ◌*◌, ◌≤◌, ◌<◌}
 use mathlib.Core.Path.{◌≡◌}
 use lib.ListN.{length, drop}
 use Rattle.cell_table.proofs.fill_subs.Given as goal

@@ -1,8 +1,6 @@
 -- `walk_by_batch`: the rows passed are finite, and their candidates are offered and counted.
-use Prim.Native.Nat.{◌-◌}
 use borrow.Author.Rules.{rules}
 use mathlib.Core.Path.{◌≡◌, refl}
-use mathlib.Core.Bool.{true}
 use native.Mathlib.Omega.{arith}
 use Rattle.lists.specs.Lists.{member_of}
 use Rattle.neighbor.specs.Gathered.{runs, Gathered}

@@ -1,6 +1,6 @@
 -- `train_cells`: the cells passed are reached, and their sub-centres stand in front.
 use borrow.Author.Rules.{rules}
-use Prim.Native.Nat.{ℕ, ◌+◌, ◌*◌, ◌-◌}
+use Prim.Native.Nat.{ℕ, ◌+◌, ◌*◌}
 use mathlib.Core.Path.{◌≡◌, refl, sym, ◌∙◌, ap, subst}
 use native.Mathlib.Omega.{arith}
 use Rattle.lists.proofs.Joins.{join-none, join_step, join-done}

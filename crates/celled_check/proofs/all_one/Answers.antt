@@ -1,6 +1,5 @@
 -- `all_one`: every count passed is 1.
 use borrow.Author.Rules.{rules}
-use Prim.Native.Nat.{◌-◌}
 use native.Mathlib.Omega.{arith}
 use native.Mathlib.Numerals.{add-one}
 use Rattle.lists.proofs.Walks.{every-none, every_more, every-done}

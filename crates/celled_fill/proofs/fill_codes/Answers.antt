@@ -1,6 +1,5 @@
 -- `fill_codes`: the rows of the cells passed have their codes.
 use borrow.Author.Rules.{rules}
-use Prim.Native.Nat.{◌-◌}
 use mathlib.Core.Path.{◌≡◌, refl, ◌∙◌}
 use native.Mathlib.Omega.{arith}
 use Rattle.celled_fill.proofs.CellSlices.{cells-none, cells-more, cells-all}

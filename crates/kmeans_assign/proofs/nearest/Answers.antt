@@ -1,9 +1,8 @@
 use borrow.Author.Rules.{rules}
-use Prim.Native.Nat.{ℕ, ◌+◌, ◌-◌}
+use Prim.Native.Nat.{ℕ, ◌+◌}
 use mathlib.Core.Path.{◌≡◌, sym, ◌∙◌, ap}
 use native.Mathlib.Omega.{arith}
 use lib.ListN.{length}
-use mathlib.Core.Logic.{⊎_elim}
 use Rattle.metrics.specs.declared.Worked.{Worked}
 use Rattle.lists.proofs.Joins.{within}
 use Rattle.metrics.specs.Distance.{value_in}

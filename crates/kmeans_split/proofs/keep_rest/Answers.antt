@@ -1,5 +1,4 @@
 use borrow.Author.Rules.{rules}
-use Prim.Native.Nat.{◌-◌}
 use mathlib.Core.Path.{◌∙◌}
 use lib.Ieee.{nan}
 use Rattle.lists.proofs.Tables.{tab-none, tab-step, tab-rest, tab-done}

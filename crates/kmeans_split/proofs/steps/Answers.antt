@@ -1,8 +1,6 @@
 use borrow.Author.Rules.{rules}
-use Prim.Native.Nat.{◌-◌}
 use mathlib.Core.Path.{sym, ◌∙◌}
 use native.Mathlib.Omega.{arith}
-use mathlib.Core.Bool.{false}
 use native.Mathlib.Nat.{add-zero}
 use borrow.Author.Count.{below_more}
 use Rattle.lists.proofs.Tests.{first-is, first-none}

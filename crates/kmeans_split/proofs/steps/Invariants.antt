@@ -1,4 +1,4 @@
-use Prim.Native.Nat.{ℕ, ◌-◌, ◌≤◌, ◌<◌}
+use Prim.Native.Nat.{ℕ, ◌≤◌, ◌<◌}
 use mathlib.Core.Path.{◌≡◌}
 use mathlib.Core.Bool.{false}
 use Rattle.kmeans_split.specs.Split.{walk_at, taken_at, split_task}

@@ -1,4 +1,4 @@
-use Rattle.std.proofs.Common.{◌-◌, ap₂, rules}
+use Rattle.std.proofs.Common.{ap₂, rules}
 use lib.Ieee.{nan, binary32, add}
 use Rattle.lists.proofs.Tables.{tab-none, tab-step, tab-rest, tab-done}
 use Rattle.kmeans_start.proofs.add_into.Goals as goal

@@ -1,4 +1,4 @@
-use Rattle.std.proofs.Common.{◌-◌, ap, ◌∙◌, rules}
+use Rattle.std.proofs.Common.{ap, ◌∙◌, rules}
 use lib.Ieee.{nan}
 use Rattle.lists.proofs.Tables.{tab-none, tab-step, tab-rest, tab-done}
 use Rattle.kmeans_start.specs.Start.{mean_of}

@@ -1,4 +1,4 @@
-use Rattle.std.proofs.Common.{◌-◌, length, refl, ◌∙◌, arith, rules}
+use Rattle.std.proofs.Common.{length, refl, ◌∙◌, arith, rules}
 use Rattle.lists.proofs.Joins.{within, grid-none, grid-step, grid-done}
 use Rattle.kmeans_start.proofs.start_centers.Goals as goal
 

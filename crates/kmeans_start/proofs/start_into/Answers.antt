@@ -1,4 +1,4 @@
-use Rattle.std.proofs.Common.{◌-◌, rules}
+use Rattle.std.proofs.Common.{rules}
 use lib.Ieee.{nan}
 use Rattle.lists.proofs.Tables.{tab-none, tab-step, tab-done}
 use Rattle.kmeans_start.proofs.start_into.Goals as goal

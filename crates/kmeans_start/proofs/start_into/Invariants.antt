@@ -1,4 +1,4 @@
-use Rattle.std.proofs.Common.{◌≡◌, ◌+◌, ◌-◌, ◌≤◌, ◌++◌, length, drop}
+use Rattle.std.proofs.Common.{◌≡◌, ◌≤◌, ◌++◌, length, drop}
 use Rattle.lists.specs.Lists.{tab}
 use Rattle.kmeans_start.specs.StartInner.{start_from}
 use Rattle.kmeans_start.proofs.start_into.Given as goal

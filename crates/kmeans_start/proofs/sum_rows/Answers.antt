@@ -1,4 +1,4 @@
-use Rattle.std.proofs.Common.{◌≡◌, ◌-◌, length, sym, refl, ap, ◌∙◌, arith, rules}
+use Rattle.std.proofs.Common.{◌≡◌, length, sym, refl, ap, ◌∙◌, arith, rules}
 use Rattle.lists.proofs.Tables.{length-tab}
 use Rattle.metrics.specs.Distance.{sum_to}
 use Rattle.kmeans_assign.specs.Task.{row_task}

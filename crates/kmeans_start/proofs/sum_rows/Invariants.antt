@@ -1,4 +1,4 @@
-use Rattle.std.proofs.Common.{◌≡◌, ◌-◌, ◌≤◌, length}
+use Rattle.std.proofs.Common.{◌≡◌, ◌≤◌, length}
 use Rattle.lists.specs.Lists.{tab}
 use Rattle.kmeans_assign.specs.Task.{row_task}
 use Rattle.kmeans_start.specs.StartInner.{column_sum}

@@ -1,5 +1,4 @@
 use borrow.Author.Rules.{rules}
-use Prim.Native.Nat.{◌-◌}
 use mathlib.Core.Path.{refl}
 use Rattle.lists.proofs.Tables.{tab-none, tab-step, tab-done}
 use Rattle.lists.proofs.fill_numbers.Goals as goal

@@ -1,5 +1,4 @@
 -- `all_finite`: whether the coordinates passed are finite.
-use Prim.Native.Nat.{◌-◌}
 use borrow.Author.Rules.{rules}
 use lib.ListN.{length}
 use mathlib.Core.Path.{◌≡◌, refl, ◌∙◌, ap}

@@ -1,5 +1,4 @@
 -- `all_behind`: none of those passed comes before it.
-use Prim.Native.Nat.{◌-◌}
 use borrow.Author.Rules.{rules}
 use mathlib.Core.Path.{◌≡◌, refl, ◌∙◌, ap}
 use native.Mathlib.Numerals.{add-one}

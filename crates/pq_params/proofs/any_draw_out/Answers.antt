@@ -3,8 +3,7 @@ use borrow.Author.Rules.{rules}
 use Rattle.pq_params.specs.Refusals.{any_draw_out}
 use Rattle.lists.proofs.Tests.{every_of, every-false}
 use borrow.Author.Count.{below_more}
-use mathlib.Core.Bool.{true, not}
-use Prim.Native.Nat.{◌-◌}
+use mathlib.Core.Bool.{not}
 use mathlib.Core.Path.{sym, ap}
 use native.Mathlib.Omega.{arith}
 use Rattle.pq_params.proofs.any_draw_out.Goals as goal

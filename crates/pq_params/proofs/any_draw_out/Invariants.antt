@@ -1,7 +1,7 @@
 use Rattle.pq_params.specs.Refusals.{in_draw_range}
 use lib.Ieee.{nan}
 use mathlib.Core.Bool.{true}
-use Prim.Native.Nat.{ℕ, ◌-◌, ◌≤◌, ◌<◌}
+use Prim.Native.Nat.{ℕ, ◌≤◌, ◌<◌}
 use mathlib.Core.Path.{◌≡◌}
 use lib.ListN.{length, get_or}
 use Rattle.pq_params.proofs.any_draw_out.Given as goal

@@ -1,6 +1,5 @@
 -- `ranges`: after i turns the first i places are as defined, and the others as at the start.
 use borrow.Author.Rules.{rules}
-use Prim.Native.Nat.{◌-◌}
 use mathlib.Core.List.{[]}
 use Rattle.lists.proofs.Tables.{tab-none, tab-step, tab-done}
 use Rattle.pq_params.specs.Ranges.{ranges_of}

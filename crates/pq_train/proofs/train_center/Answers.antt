@@ -1,5 +1,5 @@
 use borrow.Author.Rules.{rules}
-use Prim.Native.Nat.{ℕ, ◌*◌, ◌-◌}
+use Prim.Native.Nat.{ℕ, ◌*◌}
 use mathlib.Core.Path.{◌≡◌, refl, sym, ◌∙◌, ap, subst}
 use native.Mathlib.Omega.{arith}
 use lib.ListN.{length}
@@ -15,7 +15,7 @@ use Rattle.answers.specs.Answers.{staged, draws_used}
 use Rattle.pq_train.specs.Training.{reached, centers_at, task_of, sub_centers}
 use Rattle.pq_train.specs.Inner.{listed_of}
 use Rattle.pq_train.proofs.Laws.{reached-step, reached-refused, centers-begin, centers-reached, nothing-made}
-use Prim.Native.Nat.{ℕ, ◌*◌, ◌-◌}
+use Prim.Native.Nat.{ℕ, ◌*◌}
 use mathlib.Core.Path.{◌≡◌, refl, sym, ◌∙◌, ap}
 use native.Mathlib.Omega.{arith}
 use lib.ListN.{length}

@@ -1,4 +1,4 @@
-use Prim.Native.Nat.{◌+◌, ◌*◌, ◌-◌, ◌≤◌}
+use Prim.Native.Nat.{◌*◌, ◌≤◌}
 use mathlib.Core.Path.{◌≡◌}
 use mathlib.Core.List.{◌++◌}
 use lib.ListN.{length, drop}
@@ -8,7 +8,7 @@ use Rattle.pq_params.specs.Ranges.{begin_of}
 use Rattle.answers.specs.declared.Trained.TheVariants.{Done}
 use Rattle.pq_train.specs.Training.{reached, centers_at}
 use Rattle.pq_train.specs.Inner.{listed_of}
-use Prim.Native.Nat.{◌+◌, ◌*◌, ◌-◌, ◌≤◌}
+use Prim.Native.Nat.{◌*◌, ◌≤◌}
 use mathlib.Core.Path.{◌≡◌}
 use lib.ListN.{length, drop}
 use Rattle.pq_train.proofs.train_center.Given as goal

@@ -1,9 +1,7 @@
 -- `probed_sound`: the cells passed are sound, and the first that is not ends the walk.
 use borrow.Author.Rules.{rules}
 use borrow.Author.Count.{below_none, below_more}
-use mathlib.Core.Bool.{true}
 use Rattle.lists.proofs.Tests.{every_of, every-false}
-use Prim.Native.Nat.{◌-◌}
 use mathlib.Core.Path.{sym, ◌∙◌}
 use native.Mathlib.Omega.{arith}
 use lib.ListN.{length}

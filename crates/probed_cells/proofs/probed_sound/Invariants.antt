@@ -1,6 +1,6 @@
 use mathlib.Core.Bool.{true}
 use Rattle.probed_cells.specs.ProbedInner.{sound_at}
-use Prim.Native.Nat.{ℕ, ◌-◌, ◌≤◌, ◌<◌}
+use Prim.Native.Nat.{ℕ, ◌≤◌, ◌<◌}
 use mathlib.Core.Path.{◌≡◌}
 use lib.ListN.{length}
 use Rattle.probed_cells.proofs.probed_sound.Given as goal

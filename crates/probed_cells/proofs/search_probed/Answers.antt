@@ -5,7 +5,6 @@ use Rattle.probed_cells.specs.Search.{Asked}
 use Rattle.probed_cells.specs.Search.{asking}
 use Rattle.probed_cells.proofs.ProbedCells.{probed-is, probed-few, probed-rows, walking-at}
 use Rattle.probed_cells.proofs.ProbedWalk.{reached-none, counted-few, reached-more, reached-not, reached-all}
-use Prim.Native.Nat.{◌-◌}
 use mathlib.Core.Path.{sym, ap}
 use native.Mathlib.Omega.{arith}
 use lib.ListN.{length}

@@ -1,6 +1,6 @@
 use Rattle.probed_cells.specs.Search.{asking}
 use Rattle.probed_cells.proofs.ProbedWalk.{Reached}
-use Prim.Native.Nat.{◌-◌, ◌≤◌}
+use Prim.Native.Nat.{◌≤◌}
 use mathlib.Core.Path.{◌≡◌}
 use lib.ListN.{length}
 use Rattle.probed_cells.proofs.search_probed.Given as goal
