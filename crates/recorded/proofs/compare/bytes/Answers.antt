@@ -1,7 +1,6 @@
 use borrow.Author.Rules.{rules}
 use Rattle.lending.proofs.Laws.{every-done}
 use Rattle.lists.specs.Tests.{every}
-use Prim.Native.Nat.{◌-◌}
 use mathlib.Core.Path.{refl}
 use native.Mathlib.Numerals.{add-one}
 use Rattle.recorded.proofs.compare.bytes.Goals as goal

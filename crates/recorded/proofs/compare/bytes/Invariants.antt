@@ -1,7 +1,7 @@
 use Rattle.recorded.specs.Compare.{as_word}
 use Rattle.recorded.specs.Layout.{padded_words}
 use Rattle.lists.specs.Tests.{every}
-use Prim.Native.Nat.{◌-◌, ◌≤◌}
+use Prim.Native.Nat.{◌≤◌}
 use mathlib.Core.Path.{◌≡◌}
 use lib.ListN.{length}
 use Rattle.recorded.proofs.compare.bytes.Given as goal

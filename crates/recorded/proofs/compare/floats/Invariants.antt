@@ -1,6 +1,6 @@
 use Rattle.recorded.specs.Compare.{as_float}
 use Rattle.lists.specs.Tests.{every}
-use Prim.Native.Nat.{◌-◌, ◌≤◌}
+use Prim.Native.Nat.{◌≤◌}
 use mathlib.Core.Path.{◌≡◌}
 use lib.ListN.{length}
 use Rattle.recorded.proofs.compare.floats.Given as goal

@@ -1,8 +1,6 @@
 use borrow.Author.Rules.{rules}
-use Rattle.recorded.specs.Layout.{draw_at}
 use Rattle.lists.proofs.Tables.{tab-none, tab-step, tab-done}
 use lib.Ieee.{nan}
-use Prim.Native.Nat.{◌-◌}
 use Rattle.recorded.proofs.layout.draws.Goals as goal
 
 pub loop-j-init : goal.loop-j-init

@@ -1,7 +1,7 @@
 use Rattle.recorded.specs.Layout.{draw_at}
 use Rattle.lists.specs.Lists.{tab}
 use mathlib.Core.List.{◌++◌}
-use Prim.Native.Nat.{◌-◌, ◌≤◌}
+use Prim.Native.Nat.{◌≤◌}
 use mathlib.Core.Path.{◌≡◌}
 use lib.ListN.{length, drop}
 use Rattle.recorded.proofs.layout.draws.Given as goal

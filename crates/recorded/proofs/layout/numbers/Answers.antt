@@ -1,7 +1,5 @@
 use borrow.Author.Rules.{rules}
-use Rattle.recorded.specs.Layout.{number_at}
 use Rattle.lists.proofs.Tables.{tab-none, tab-step, tab-done}
-use Prim.Native.Nat.{◌-◌}
 use Rattle.recorded.proofs.layout.numbers.Goals as goal
 
 pub loop-j-init : goal.loop-j-init

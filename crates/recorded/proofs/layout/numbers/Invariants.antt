@@ -1,7 +1,7 @@
 use Rattle.recorded.specs.Layout.{number_at}
 use Rattle.lists.specs.Lists.{tab}
 use mathlib.Core.List.{◌++◌}
-use Prim.Native.Nat.{◌-◌, ◌≤◌}
+use Prim.Native.Nat.{◌≤◌}
 use mathlib.Core.Path.{◌≡◌}
 use lib.ListN.{length, drop}
 use Rattle.recorded.proofs.layout.numbers.Given as goal
