@@ -4,9 +4,6 @@ use mathlib.Core.Path.{◌≡◌, refl, sym, ◌∙◌, subst}
 use mathlib.Core.Bool.{Bool, cond, ◌&&◌}
 use mathlib.Core.List.{List, [], ◌∷◌}
 use mathlib.Core.Logic.{inl, inr}
-use types.Run.{OneOf}
-use denote.Enum.Declared.{tag_of}
-use Rattle.answers.specs.contracts.Clustered.{the_type}
 use native.Mathlib.Decide.{dec_le}
 use native.Mathlib.Omega.{arith}
 use native.Mathlib.Numerals.{add-one}
@@ -69,9 +66,8 @@ unfolding split_to
 split_step t epoch at i r q p e d f = f ∙ rw (add-one, ← e, d)
 
 -- what a `match` tells of an answer that is not `Done`
-pub told-not-done : (c : Clustered) → OneOf (1 ∷ 2 ∷ []) (tag_of the_type c) → NotDone c
-told-not-done (Done used) (inl h) = absurd (omega arith)
-told-not-done (Done used) (inr h) = absurd (omega arith)
+pub told-not-done : (c : Clustered) → ((used : ℕ) → c ≡ Done used → ⊥) → NotDone c
+told-not-done (Done used) h = absurd (h used refl)
 told-not-done (OutOfDraws epoch center) h = tt
 told-not-done (NotFinite step epoch center) h = tt
 
