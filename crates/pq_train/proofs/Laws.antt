@@ -4,8 +4,6 @@ use mathlib.Core.Path.{◌≡◌, refl, sym, ◌∙◌, ap, subst}
 use mathlib.Core.List.{List, [], ◌∷◌}
 use mathlib.Core.Logic.{inl, inr}
 use mathlib.Core.Bool.{false}
-use types.Run.{OneOf}
-use denote.Enum.Declared.{tag_of}
 use native.Mathlib.Nat.{add_assoc, le_of_lt, mul-add, mul-zero, mul-le-mul_left, mul-le-mul_right}
 use native.Mathlib.Decide.{dec_le}
 use native.Mathlib.Numerals.{add-one}
@@ -34,7 +32,6 @@ use Rattle.answers.specs.declared.Stage.{Stage}
 use Rattle.answers.specs.declared.Stage.TheVariants.{Sub}
 use Rattle.answers.specs.declared.Trained.{Trained}
 use Rattle.answers.specs.declared.Trained.TheVariants.{Done, Refused, OutOfDraws, NotFinite}
-use Rattle.answers.specs.contracts.Trained.{the_type}
 use Rattle.answers.specs.Answers.{staged, go_on, draws_used, ended}
 use Rattle.pq_train.specs.Training.{Listed, value_on_range, task_of, reached, centers_at, sub_centers, code_of}
 use Rattle.pq_train.specs.Inner.{listed_of, frame_of, Listing, FramedIn, RanAt, Centered, ListOut, list_outcome, Coding, code_by}
@@ -153,10 +150,8 @@ pub centers-reached : (l : Listed) (s used : ℕ) → reached l s ≡ Done used 
 centers-reached l s used e = sym (ap (λ (t : Trained). (train (task_of l s) (draws_used t)).centers) e)
 
 -- what a `match` tells of an answer that is not `Done`
-pub told-refusal : (t : Trained) → OneOf (1 ∷ 2 ∷ 3 ∷ []) (tag_of the_type t) → Refusal t
-told-refusal (Done used) (inl h) = absurd (omega arith)
-told-refusal (Done used) (inr (inl h)) = absurd (omega arith)
-told-refusal (Done used) (inr (inr h)) = absurd (omega arith)
+pub told-refusal : (t : Trained) → ((used : ℕ) → t ≡ Done used → ⊥) → Refusal t
+told-refusal (Done used) h = absurd (h used refl)
 told-refusal (Refused number) h = tt
 told-refusal (OutOfDraws stage epoch center) h = tt
 told-refusal (NotFinite stage step epoch center) h = tt
