@@ -1,0 +1,13 @@
+use Prim.Native.Nat.{◌-◌, ◌≤◌}
+use mathlib.Core.Path.{◌≡◌}
+use lib.ListN.{length}
+use Rattle.celled_lists.specs.Cells.{cell_start}
+use Rattle.celled_fill.specs.Fill.{cell_at, filled_code}
+use Rattle.celled_fill.specs.FillInner.{coded_to}
+use Rattle.celled_fill.proofs.fill_codes.Given as goal
+
+abbrev pub invariant-loop-c : goal.invariant-loop-c
+invariant-loop-c l =
+    (l.c ≤ l.s.cells)
+    × (length l.codes ≡ length l.initial.codes)
+    × (l.codes ≡ coded_to (filled_code l.s l.coarse l.subs l.rows) l.s.plain.nsub l.members (cell_start (cell_at l.s l.coarse l.rows) (length l.members) l.c) l.initial.codes)
