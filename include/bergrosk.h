@@ -5,10 +5,10 @@
  * rows among cells, codes each row by its difference from the centre of its cell, and a search
  * scores the rows of the few cells that are nearest to the query.
  *
- * Build the archive with `library/make` and link what it names. It allocates nothing, keeps no
- * state, calls nothing but memset, and can be used from any number of threads at once, each with
- * its own buffers to be written. docs/SPECIFICATION.md says in words what each function does, and
- * docs/PRODUCTION.md what to know before one relies on it.
+ * Build the archive with tests/prove and link target/staticlib/libbergrosk.a. It allocates nothing,
+ * keeps no state, calls nothing but memset, and can be used from any number of threads at once, each
+ * with its own buffers to be written. docs/SPECIFICATION.md says in words what each function does,
+ * and README.md what is proved of it and what is not.
  *
  * Buffers. A buffer is a pointer and a length in elements, and must be exactly as long as stated:
  * bergrosk_plain_lengths and bergrosk_celled_lengths work the lengths out. The caller owes that

@@ -1,6 +1,5 @@
-//! With the feature `library`, links the project's static library: the archive that `rt staticlib`
-//! writes where that is of the machine built for, else the one that `oracle/library` makes of the
-//! same module for this machine.
+//! With the feature `library`, links the project's static library: the archive that an engine links,
+//! which `oracle/library` makes and which is for x86-64.
 
 use std::env;
 use std::path::PathBuf;
@@ -14,10 +13,15 @@ fn main() {
 
 /// Tells cargo where the archive is, or stops the build with one line if it is not there.
 fn link_library() {
-    let x86_64 = env::var("CARGO_CFG_TARGET_ARCH").expect("set by cargo") == "x86_64";
+    if env::var("CARGO_CFG_TARGET_ARCH").expect("set by cargo") != "x86_64" {
+        println!(
+            "cargo::error=the archive, which the feature `library` links, is for x86-64 alone"
+        );
+        return;
+    }
     let oracle = PathBuf::from(env::var_os("CARGO_MANIFEST_DIR").expect("set by cargo"));
     let root = oracle.parent().expect("the oracle is a folder of the repository");
-    let folder = root.join(if x86_64 { "target/staticlib" } else { "target/native" });
+    let folder = root.join("target/staticlib");
     let archive = folder.join("libbergrosk.a");
     println!("cargo:rerun-if-changed={}", archive.display());
     if !archive.exists() {

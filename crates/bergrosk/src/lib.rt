@@ -1,5 +1,5 @@
-// The face: each entry point once more as a function that C calls, its answer in numbers. include/bergrosk.h declares it.
-// A slice arrives as a pointer and a length. No function asks anything of what it is lent.
+// The face: each entry point once more, its answer in numbers. The crate bergrosk_c exports each of these functions to C under its
+// own name. No function asks anything of what it is lent.
 #![tactic(auto)]
 
 ghost use Rattle.std.specs.Prelude.{◌≡◌};
@@ -39,24 +39,21 @@ fn celled_shape(d: usize, nsub: usize, bits: usize, cells: usize, probes: usize)
 }
 
 // The Rust's defaults for a plain index.
-#[unsafe(no_mangle)]
-pub extern "C" fn bergrosk_plain_defaults() -> PQParams
+pub fn bergrosk_plain_defaults() -> PQParams
     ensures { result ≡ plain_default }
 {
     PQParams::default()
 }
 
 // The Rust's defaults for a celled index.
-#[unsafe(no_mangle)]
-pub extern "C" fn bergrosk_celled_defaults() -> IVFPQParams
+pub fn bergrosk_celled_defaults() -> IVFPQParams
     ensures { result ≡ celled_default }
 {
     IVFPQParams::default()
 }
 
 // Range i of the list of ranges: 0, 0 past the last.
-#[unsafe(no_mangle)]
-pub extern "C" fn bergrosk_range(d: usize, nsub: usize, i: usize) -> RangeAnswer
+pub fn bergrosk_range(d: usize, nsub: usize, i: usize) -> RangeAnswer
     ensures { result ≡ range_answer_of d nsub i }
 {
     let pair = pq_params::range_at(d, nsub, i);
@@ -68,21 +65,14 @@ pub extern "C" fn bergrosk_range(d: usize, nsub: usize, i: usize) -> RangeAnswer
 }
 
 // How long each buffer of a plain index must be.
-#[unsafe(no_mangle)]
-pub extern "C" fn bergrosk_plain_lengths(
-    d: usize,
-    nsub: usize,
-    bits: usize,
-    n: usize,
-) -> PlainLengths
+pub fn bergrosk_plain_lengths(d: usize, nsub: usize, bits: usize, n: usize) -> PlainLengths
     ensures { result ≡ plain_lengths (shape_of d nsub bits) n }
 {
     pq_params::plain_lengths(Shape { d, nsub, bits }, n)
 }
 
 // How long each buffer of a celled index must be.
-#[unsafe(no_mangle)]
-pub extern "C" fn bergrosk_celled_lengths(
+pub fn bergrosk_celled_lengths(
     d: usize,
     nsub: usize,
     bits: usize,
@@ -97,8 +87,7 @@ pub extern "C" fn bergrosk_celled_lengths(
 }
 
 // Training of a plain index.
-#[unsafe(no_mangle)]
-pub extern "C" fn bergrosk_plain_train(
+pub fn bergrosk_plain_train(
     d: usize,
     nsub: usize,
     bits: usize,
@@ -120,8 +109,7 @@ pub extern "C" fn bergrosk_plain_train(
 }
 
 // Search of a plain index.
-#[unsafe(no_mangle)]
-pub extern "C" fn bergrosk_plain_search(
+pub fn bergrosk_plain_search(
     d: usize,
     nsub: usize,
     bits: usize,
@@ -144,8 +132,7 @@ pub extern "C" fn bergrosk_plain_search(
 }
 
 // Training of a celled index.
-#[unsafe(no_mangle)]
-pub extern "C" fn bergrosk_celled_train(
+pub fn bergrosk_celled_train(
     d: usize,
     nsub: usize,
     bits: usize,
@@ -176,8 +163,7 @@ pub extern "C" fn bergrosk_celled_train(
 }
 
 // The whole check of a celled index.
-#[unsafe(no_mangle)]
-pub extern "C" fn bergrosk_celled_check(
+pub fn bergrosk_celled_check(
     d: usize,
     nsub: usize,
     bits: usize,
@@ -201,8 +187,7 @@ pub extern "C" fn bergrosk_celled_check(
 }
 
 // Search of a celled index.
-#[unsafe(no_mangle)]
-pub extern "C" fn bergrosk_celled_search(
+pub fn bergrosk_celled_search(
     d: usize,
     nsub: usize,
     bits: usize,

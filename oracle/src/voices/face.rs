@@ -1,10 +1,5 @@
 //! The declarations of `include/bergrosk.h`, for the feature `library`: the one file that names the
-//! library's entry points.
-//!
-//! On x86-64 an answer by value is written behind a hidden first pointer. The module says so in the
-//! terms of x86-64, so what is made of it for another machine takes that pointer as a first argument
-//! like any other, and there each entry point is called in that way. The whole check answers a number,
-//! which is returned alike everywhere.
+//! library's entry points. The archive is for x86-64, and so is a build with that feature.
 
 /// Where an 8 or 9 was met; all zero in every other answer.
 #[repr(C)]
@@ -92,42 +87,21 @@ pub struct CelledDefaults {
     pub epochs: usize,
 }
 
-/// Declares the entry points as the header has them, or with the pointer to the answer in front.
-macro_rules! entry_points {
-    ($(fn $name:ident($($word:ident: $kind:ty),* $(,)?) -> $answer:ident;)*) => {
-        #[cfg(target_arch = "x86_64")]
-        extern "C" {
-            $(pub fn $name($($word: $kind),*) -> $answer;)*
-        }
+extern "C" {
+    pub fn bergrosk_range(d: usize, n_sub: usize, i: usize) -> RangeAnswer;
 
-        #[cfg(not(target_arch = "x86_64"))]
-        mod behind_pointer {
-            use super::*;
-            extern "C" {
-                $(pub fn $name(answer: *mut $answer, $($word: $kind),*) -> *mut $answer;)*
-            }
-        }
+    pub fn bergrosk_plain_defaults() -> PlainDefaults;
 
-        $(#[cfg(not(target_arch = "x86_64"))]
-        pub unsafe fn $name($($word: $kind),*) -> $answer {
-            let mut answer = $answer::default();
-            let place: *mut $answer = &mut answer;
-            assert_eq!(behind_pointer::$name(place, $($word),*), place);
-            answer
-        })*
-    };
-}
+    pub fn bergrosk_celled_defaults() -> CelledDefaults;
 
-entry_points! {
-    fn bergrosk_range(d: usize, n_sub: usize, i: usize) -> RangeAnswer;
+    pub fn bergrosk_plain_lengths(
+        d: usize,
+        n_sub: usize,
+        sub_bits: usize,
+        n: usize,
+    ) -> PlainBuffers;
 
-    fn bergrosk_plain_defaults() -> PlainDefaults;
-
-    fn bergrosk_celled_defaults() -> CelledDefaults;
-
-    fn bergrosk_plain_lengths(d: usize, n_sub: usize, sub_bits: usize, n: usize) -> PlainBuffers;
-
-    fn bergrosk_celled_lengths(
+    pub fn bergrosk_celled_lengths(
         d: usize,
         n_sub: usize,
         sub_bits: usize,
@@ -136,7 +110,7 @@ entry_points! {
         n: usize,
     ) -> CelledBuffers;
 
-    fn bergrosk_plain_train(
+    pub fn bergrosk_plain_train(
         d: usize,
         n_sub: usize,
         sub_bits: usize,
@@ -154,7 +128,7 @@ entry_points! {
         work_len: usize,
     ) -> TrainAnswer;
 
-    fn bergrosk_plain_search(
+    pub fn bergrosk_plain_search(
         d: usize,
         n_sub: usize,
         sub_bits: usize,
@@ -175,7 +149,7 @@ entry_points! {
         table_len: usize,
     ) -> SearchAnswer;
 
-    fn bergrosk_celled_train(
+    pub fn bergrosk_celled_train(
         d: usize,
         n_sub: usize,
         sub_bits: usize,
@@ -201,7 +175,7 @@ entry_points! {
         work_len: usize,
     ) -> TrainAnswer;
 
-    fn bergrosk_celled_search(
+    pub fn bergrosk_celled_search(
         d: usize,
         n_sub: usize,
         sub_bits: usize,
@@ -229,9 +203,7 @@ entry_points! {
         table: *mut f32,
         table_len: usize,
     ) -> SearchAnswer;
-}
 
-extern "C" {
     pub fn bergrosk_celled_check(
         d: usize,
         n_sub: usize,
