@@ -5,9 +5,8 @@
 mod kind_celled;
 mod place;
 
-use lending::reading;
-use lending::tally;
 use lending::tally::Tally;
+use lending::{reading, tally};
 use recorded::layout;
 use std::fs::File;
 use std::{fs, io};
