@@ -1,6 +1,7 @@
-// How many cases there were, how many of them agree, and the line that says so. What is written no contract can say.
-ghost use Rattle.std.specs.Prelude.{◌≡◌, eqb, IfOk};
-ghost use Rattle.lending.specs.Tally.{more_of, counted_of};
+// How many cases there were, how many of them agree, and the line that says so.
+ghost use Rattle.std.specs.Prelude.{◌≡◌, eqb, IfOk, OnOk};
+ghost use Rattle.lending.specs.Tally.{more_of, counted_of, line_of};
+ghost use Rattle.std.specs.Io.KnownBytes.{Appends};
 
 use std::io;
 use std::io::Write;
@@ -37,13 +38,16 @@ pub fn counted(t: Tally, agrees: bool) -> Tally
 }
 
 // Words to a writer.
-fn say(out: &mut impl Write, words: &[u8]) -> io::Result<()> {
+fn say<W: Write>(out: &mut W, words: &[u8]) -> io::Result<()>
+    ensures { OnOk result (Appends (W.contents out.old) (W.contents out.new) words.now) }
+{
     out.write_all(words)
 }
 
 // Says on a line how many agree, of how many; whether all do.
-pub fn say_tally(out: &mut impl Write, name: &[u8], t: Tally) -> io::Result<bool>
-    ensures { IfOk result (λ all. all ≡ eqb t.agree t.of) }
+pub fn say_tally<W: Write>(out: &mut W, name: &[u8], t: Tally) -> io::Result<bool>
+    ensures all { IfOk result (λ all. all ≡ eqb t.agree t.of) }
+    ensures line { OnOk result (Appends (W.contents out.old) (W.contents out.new) (line_of name.now t)) }
 {
     say(out, name)?;
     write!(out, "{}", t.agree)?;
