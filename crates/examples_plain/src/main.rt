@@ -8,9 +8,11 @@ mod trainings;
 
 use lending::tally;
 use lending::tally::Tally;
+use std::io;
 
 // The trainings, then the searches.
-fn main() {
+fn main(rt: HostRuntime) -> io::Result<()> {
     let t = trainings::agreeing(Tally { agree: 0, of: 0 });
-    tally::say_tally(b"examples ", searches::agreeing(t));
+    tally::say_tally(&mut io::writer(&rt), b"examples ", searches::agreeing(t))?;
+    Ok(())
 }

@@ -6,4 +6,5 @@ pub mod buffers;
 pub mod held;
 pub mod listed;
 pub mod parts;
+pub mod reading;
 pub mod tally;

@@ -1,8 +1,10 @@
-// How many cases there were, how many of them agree, and the line that says so. What is written no contract can say.
-ghost use Rattle.std.specs.Prelude.{◌≡◌, eqb};
-ghost use Rattle.lending.specs.Tally.{more_of, counted_of};
+// How many cases there were, how many of them agree, and the line that says so.
+ghost use Rattle.std.specs.Prelude.{◌≡◌, eqb, IfOk, OnOk};
+ghost use Rattle.lending.specs.Tally.{more_of, counted_of, line_of};
+ghost use Rattle.std.specs.Io.KnownBytes.{Appends};
 
-use libc::STDOUT_FILENO;
+use std::io;
+use std::io::Write;
 
 // The cases so far, and those of them that agree.
 #[derive(Clone, Copy)]
@@ -35,19 +37,22 @@ pub fn counted(t: Tally, agrees: bool) -> Tally
     }
 }
 
-// Words to the standard output.
-fn say(words: &[u8]) {
-    io::write_all(STDOUT_FILENO, words);
+// Words to a writer.
+fn say<W: Write>(out: &mut W, words: &[u8]) -> io::Result<()>
+    ensures { OnOk result (Appends (W.contents out.old) (W.contents out.new) words.now) }
+{
+    out.write_all(words)
 }
 
 // Says on a line how many agree, of how many; whether all do.
-pub fn say_tally(name: &[u8], t: Tally) -> bool
-    ensures { result ≡ eqb t.agree t.of }
+pub fn say_tally<W: Write>(out: &mut W, name: &[u8], t: Tally) -> io::Result<bool>
+    ensures all { IfOk result (λ all. all ≡ eqb t.agree t.of) }
+    ensures line { OnOk result (Appends (W.contents out.old) (W.contents out.new) (line_of name.now t)) }
 {
-    say(name);
-    io::print_decimal(STDOUT_FILENO, t.agree);
-    say(b" of ");
-    io::print_decimal(STDOUT_FILENO, t.of);
-    say(b"\n");
-    t.agree == t.of
+    say(out, name)?;
+    write!(out, "{}", t.agree)?;
+    say(out, b" of ")?;
+    write!(out, "{}", t.of)?;
+    say(out, b"\n")?;
+    Ok(t.agree == t.of)
 }

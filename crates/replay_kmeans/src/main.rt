@@ -8,9 +8,11 @@ mod examples;
 mod fits;
 mod kind_kmeans;
 
-use lending::tally;
 use lending::tally::Tally;
+use lending::{reading, tally};
 use recorded::layout;
+use std::fs::File;
+use std::{fs, io};
 
 // The kind of the file's cases.
 const KMEANS: u32 = 1;
@@ -32,21 +34,17 @@ fn replay_all(file: &[u8]) -> Tally {
 }
 
 // All cases of an open file.
-fn replay_file(fd: i32) -> Tally {
+fn replay_file(from: &mut File) -> io::Result<Tally> {
     let mut file = buffers::file();
-    let n = io::read_full(fd, &mut file);
-    replay_all(lending::parts::bytes(&file, n))
+    let n = reading::read_full(from, &mut file)?;
+    Ok(replay_all(lending::parts::bytes(&file, n)))
 }
 
 // The examples, then the file.
-fn main() {
-    tally::say_tally(b"examples ", examples::agreeing());
-    let path = b"kmeans.bin";
-    let fd = os::open_read(path);
-    if fd < 0 {
-        os::fail(path);
-        return;
-    }
-    tally::say_tally(b"k-means ", replay_file(fd));
-    libc::close(fd);
+fn main(rt: HostRuntime) -> io::Result<()> {
+    let mut out = io::writer(&rt);
+    tally::say_tally(&mut out, b"examples ", examples::agreeing())?;
+    let mut from = fs::open(&rt, "kmeans.bin")?;
+    tally::say_tally(&mut out, b"k-means ", replay_file(&mut from)?)?;
+    Ok(())
 }

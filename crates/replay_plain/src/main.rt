@@ -4,9 +4,11 @@
 
 mod kind_plain;
 
-use lending::tally;
 use lending::tally::Tally;
+use lending::{reading, tally};
 use recorded::layout;
+use std::fs::File;
+use std::{fs, io};
 
 // The kind of the file's cases.
 const PLAIN: u32 = 2;
@@ -28,20 +30,16 @@ fn replay_all(file: &[u8]) -> Tally {
 }
 
 // All cases of an open file.
-fn replay_file(fd: i32) -> Tally {
+fn replay_file(from: &mut File) -> io::Result<Tally> {
     let mut file = lending::buffers::file();
-    let n = io::read_full(fd, &mut file);
-    replay_all(lending::parts::bytes(&file, n))
+    let n = reading::read_full(from, &mut file)?;
+    Ok(replay_all(lending::parts::bytes(&file, n)))
 }
 
 // The file.
-fn main() {
-    let path = b"plain.bin";
-    let fd = os::open_read(path);
-    if fd < 0 {
-        os::fail(path);
-        return;
-    }
-    tally::say_tally(b"plain ", replay_file(fd));
-    libc::close(fd);
+fn main(rt: HostRuntime) -> io::Result<()> {
+    let mut out = io::writer(&rt);
+    let mut from = fs::open(&rt, "plain.bin")?;
+    tally::say_tally(&mut out, b"plain ", replay_file(&mut from)?)?;
+    Ok(())
 }

@@ -1,0 +1,23 @@
+// The bytes of a reader, in a buffer.
+ghost use Rattle.std.specs.Prelude.{◌≤◌, ◌<◌, length, take, IfOk};
+ghost use Rattle.std.specs.Io.KnownBytes.{Consumes, IsAtEnd};
+
+use std::io;
+use std::io::Read;
+
+// Reads until the buffer is full or nothing is left: how many bytes now stand at its front.
+pub fn read_full<R: Read>(r: &mut R, out: &mut [u8]) -> io::Result<usize>
+    ensures within { IfOk result (λ n. n ≤ length out.new) }
+    ensures read { IfOk result (λ n. Consumes (R.remaining r.old) (R.remaining r.new) (take n out.new)) }
+    ensures whole { IfOk result (λ n. n < length out.new → IsAtEnd (R.remaining r.new)) }
+{
+    let mut done = 0;
+    while done < out.len() {
+        let n = r.read(&mut out[done..])?;
+        if n == 0 {
+            break;
+        }
+        done += n;
+    }
+    Ok(done)
+}
