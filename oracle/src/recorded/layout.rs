@@ -59,6 +59,12 @@ pub fn file(kind: Kind, folder: Option<&Path>) -> PathBuf {
         (Some(folder), _) => folder.join(name),
         (None, Kind::Kmeans) => root.join("../crates/replay_kmeans/data").join(name),
         (None, Kind::Plain) => root.join("../crates/replay_plain/data").join(name),
-        (None, Kind::Celled) => root.join("recorded").join(name),
+        (None, Kind::Celled) => root.join("../crates/replay_celled/data").join(name),
     }
+}
+
+/// Where the file that stands in its place in the repository stands once more, if it does.
+pub fn copy(kind: Kind, folder: Option<&Path>) -> Option<PathBuf> {
+    let once_more = folder.is_none() && kind == Kind::Celled;
+    once_more.then(|| Path::new(env!("CARGO_MANIFEST_DIR")).join("recorded/celled.bin"))
 }

@@ -2,12 +2,12 @@
 //! case, that a program can replay without the Rust. The layout stands in `layout.rs`.
 
 use std::fs;
-use std::path::Path;
+use std::path::{Path, PathBuf};
 
 use crate::cases::case::*;
 use crate::outcome::Outcome;
 use crate::recorded::corners::{corners, names};
-use crate::recorded::layout::{file, MAGIC, VERSION};
+use crate::recorded::layout::{copy, file, MAGIC, VERSION};
 use crate::recorded::replay;
 
 /// Writes the file of each kind, then reads it back and replays it with the page; well if all of it
@@ -18,7 +18,7 @@ pub fn record(folder: Option<&Path>) -> Outcome {
     let mut agree = 0;
     for kind in Kind::ALL {
         let path = file(kind, folder);
-        match record_kind(&cases, kind, &path) {
+        match record_kind(&cases, kind, &path).and_then(|count| copied(&path, copy(kind, folder), count)) {
             Ok(count) => agree += count,
             Err(words) => {
                 return Outcome::not_well(format!("not recorded: {}: {words}", path.display()));
@@ -28,6 +28,14 @@ pub fn record(folder: Option<&Path>) -> Outcome {
     let all = cases.len();
     let words = format!("recorded and replayed with the page: {agree} of {all} agree");
     Outcome::new(agree == all, words)
+}
+
+/// Copies a recorded file to where it stands once more; what was said of it stays.
+fn copied(path: &Path, copy: Option<PathBuf>, count: usize) -> Result<usize, String> {
+    if let Some(copy) = copy {
+        fs::copy(path, copy).map_err(|error| error.to_string())?;
+    }
+    Ok(count)
 }
 
 /// Writes the cases of one kind, then replays them; how many agree, or why they cannot be recorded.
