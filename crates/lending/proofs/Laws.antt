@@ -1,14 +1,15 @@
 -- What the proofs of this crate cite.
-use Prim.Native.Nat.{ℕ, ◌≤◌}
+use Prim.Native.Nat.{ℕ, zero, suc, ◌≤◌, ◌<◌, min}
 use mathlib.Core.Path.{◌≡◌, refl, sym}
 use mathlib.Core.Bool.{Bool, true, not}
+use mathlib.Core.List.{List, [], ◌∷◌}
 use native.Mathlib.Omega.{arith}
 use lib.Dec.{T}
-use lib.ListN.{replicate, length-replicate}
+use lib.ListN.{length, get_or, replicate, length-replicate, length-take}
 use lib.Ieee.{Float, nan, inf, fin, is_nan}
 use lib.Ieee.Scale.{finite}
 use Rattle.lists.specs.Tests.{every}
-use Rattle.lending.specs.Filled.{Filled}
+use Rattle.lending.specs.Filled.{Filled, Held}
 
 -- what is finite is no NaN
 pub no_nan : (x : Float) → finite x ≡ true → T (not (is_nan x))
@@ -21,5 +22,15 @@ no_nan (fin s m e) h = tt
 pub every-done : (f : ℕ → Bool) (i n : ℕ) (b : Bool) → b ≡ every f i → i ≤ n → n ≤ i → b ≡ every f n
 every-done f i n b e h k = let p : i ≡ n = omega arith in rw p at e
 
-pub filled {ℓ} : {A : Type ℓ} (n : ℕ) (v : A) → Filled n v (replicate n v)
-filled n v = record { is = refl; long = sym (length-replicate n v) }
+module _ {ℓ} {A : Type ℓ} where
+  -- below the end the value that stands past it does not matter
+  pub same-default : (l : List A) (n : ℕ) (d d' : A) → n < length l → get_or l n d ≡ get_or l n d'
+  same-default [] n d d' h = absurd (omega arith)
+  same-default (x ∷ l) zero d d' h = refl
+  same-default (x ∷ l) (suc n) d d' h = same-default l n d d' (omega arith)
+
+  pub filled : (n : ℕ) (v : A) → Filled n v (replicate n v)
+  filled n v = record { is = refl; long = sym (length-replicate n v) }
+
+  pub held : (n : ℕ) (s : List A) (r : ℕ) → r ≡ min (length s) n → Held n s r
+  held n s r e = record { is = e; within = omega arith; lent = simp length-take (omega arith) }

@@ -1,12 +1,12 @@
 -- What the proofs of this crate cite.
 use Prim.Native.Nat.{ℕ, ◌+◌, ◌*◌, ◌≤◌, ◌<◌}
-use mathlib.Core.Path.{◌≡◌, refl}
+use mathlib.Core.Path.{◌≡◌, refl, sym, ◌∙◌}
 use mathlib.Core.Bool.{Bool, true, false, not, cond, ◌&&◌}
 use mathlib.Core.List.{List}
 use native.Mathlib.Nat.{mul-le-mul}
 use native.Mathlib.Omega.{arith}
 use lib.Dec.{T}
-use lib.ListN.{length, get_or-eq_default}
+use lib.ListN.{length, drop, drop_of_length-le, get_or-eq_default}
 use Rattle.recorded.specs.Layout.{word_at}
 
 -- where the exponent is not all ones there is no NaN
@@ -44,3 +44,7 @@ cond_yes p x y e = rw e
 
 pub cond_no {ℓ} : {A : Type ℓ} (p : Bool) (x y : A) → p ≡ false → cond p x y ≡ y
 cond_no p x y e = rw e
+
+-- nothing stands from the end on
+pub none_from {ℓ} : {A : Type ℓ} (l : List A) (m n : ℕ) → length l ≤ m → length l ≤ n → drop m l ≡ drop n l
+none_from l m n h k = drop_of_length-le l h ∙ sym (drop_of_length-le l k)
