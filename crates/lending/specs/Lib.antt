@@ -1,3 +1,4 @@
+pub mod Failed
 pub mod Filled
 pub mod Listed
 pub mod Tally

@@ -1,6 +1,7 @@
 // The bytes of a reader, in a buffer.
-ghost use Rattle.std.specs.Prelude.{◌≤◌, ◌<◌, length, take, IfOk};
+ghost use Rattle.std.specs.Prelude.{◌≤◌, ◌<◌, length, take, IfOk, OnErr};
 ghost use Rattle.std.specs.Io.KnownBytes.{Consumes, IsAtEnd};
+ghost use Rattle.lending.specs.Failed.{GaveFront};
 
 use std::io;
 use std::io::Read;
@@ -10,14 +11,15 @@ pub fn read_full<R: Read>(r: &mut R, out: &mut [u8]) -> io::Result<usize>
     ensures within { IfOk result (λ n. n ≤ length out.new) }
     ensures read { IfOk result (λ n. Consumes (R.remaining r.old) (R.remaining r.new) (take n out.new)) }
     ensures whole { IfOk result (λ n. n < length out.new → IsAtEnd (R.remaining r.new)) }
+    ensures failed { OnErr result (GaveFront (R.remaining r.old) (R.remaining r.new) out.new) }
 {
     let mut done = 0;
     while done < out.len() {
-        let n = r.read(&mut out[done..])?;
-        if n == 0 {
-            break;
+        match r.read(&mut out[done..]) {
+            Ok(0) => break,
+            Ok(n) => done += n,
+            Err(e) => return Err(e),
         }
-        done += n;
     }
     Ok(done)
 }

@@ -24,6 +24,6 @@ loop-done-preserved g c =
     let from = c.loop-done.done in
     let room = length c.loop-done.out - from in
     let within = c.loop-done.invariant.1 in
-    let part = slice_range-put_mid from room c.in_ok-n.n c.loop-done.out c.read.new.buf within c.in_ok-n.ensures.bound.0 in
-    let joined = take_split from (from + c.in_ok-n.n) c.loop-done.out (put_mid from room c.loop-done.out c.read.new.buf) (omega arith) (take-put_mid_below _ _ _ _ _ (le_refl _) within) in
-    (search rules, search rules, subst (Consumes _ _) (ap (λ l. take from c.loop-done.out ++ l) (sym part) ∙ joined) (Consumes-trans _ _ _ _ _ c.loop-done.invariant.2 c.in_ok-n.ensures.bytes.0))
+    let part = slice_range-put_mid from room c.in-Ok.n c.loop-done.out c.read.new.buf within c.in-Ok.ensures.bound.0 in
+    let joined = take_split from (from + c.in-Ok.n) c.loop-done.out (put_mid from room c.loop-done.out c.read.new.buf) (omega arith) (take-put_mid_below _ _ _ _ _ (le_refl _) within) in
+    (search rules, search rules, subst (Consumes _ _) (ap (λ l. take from c.loop-done.out ++ l) (sym part) ∙ joined) (Consumes-trans _ _ _ _ _ c.loop-done.invariant.2 c.in-Ok.ensures.bytes.0))
