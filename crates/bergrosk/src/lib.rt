@@ -1,4 +1,4 @@
-// The face: each entry point once more, its answer in numbers. The crate bergrosk_c exports each of these functions to C under its
+// The face: each entry point once more, its parameters flat and its answer in numbers, as C has them. The crate bergrosk_c exports each of these functions to C under its
 // own name. No function asks anything of what it is lent.
 #![tactic(auto)]
 
@@ -20,7 +20,7 @@ use pq_params::{CelledLengths, CelledShape, IVFPQParams, PQParams, PlainLengths,
 
 // One range: refusal 1 or 0, and its begin and end.
 #[repr(C)]
-#[derive(Clone, Copy)]
+#[derive(Clone, Copy, Debug, PartialEq, Eq)]
 pub struct RangeAnswer {
     pub number: u32,
     pub begin: usize,
@@ -56,11 +56,11 @@ pub fn bergrosk_celled_defaults() -> IVFPQParams
 pub fn bergrosk_range(d: usize, nsub: usize, i: usize) -> RangeAnswer
     ensures { result ≡ range_answer_of d nsub i }
 {
-    let pair = pq_params::range_at(d, nsub, i);
+    let [begin, end] = pq_params::range_at(d, nsub, i);
     RangeAnswer {
-        number: pq_params::bad_range(d, nsub) as u32,
-        begin: pair[0],
-        end: pair[1],
+        number: u32::from(pq_params::bad_range(d, nsub)),
+        begin,
+        end,
     }
 }
 
@@ -87,6 +87,7 @@ pub fn bergrosk_celled_lengths(
 }
 
 // Training of a plain index.
+#[tactic(auto, unfolding(crate::specs::Face::plain_train_faced))]
 pub fn bergrosk_plain_train(
     d: usize,
     nsub: usize,
@@ -104,11 +105,11 @@ pub fn bergrosk_plain_train(
         subs.old codes.old work.old) }
 {
     let s = Shape { d, nsub, bits };
-    let t = plain_train::train(s, epochs, n, rows, draws, subs, codes, work);
-    answers::train_answer(t)
+    answers::train_answer(plain_train::train(s, epochs, n, rows, draws, subs, codes, work))
 }
 
 // Search of a plain index.
+#[tactic(auto, unfolding(crate::specs::Face::plain_search_faced))]
 pub fn bergrosk_plain_search(
     d: usize,
     nsub: usize,
@@ -127,11 +128,11 @@ pub fn bergrosk_plain_search(
         codes.now (lent rows.old sums.old table.old)) }
 {
     let s = Shape { d, nsub, bits };
-    let t = plain_search::search(s, n, query, mask, subs, codes, rows, sums, table);
-    answers::search_answer(t)
+    answers::search_answer(plain_search::search(s, n, query, mask, subs, codes, rows, sums, table))
 }
 
 // Training of a celled index.
+#[tactic(auto, unfolding(crate::specs::Face::celled_train_faced))]
 pub fn bergrosk_celled_train(
     d: usize,
     nsub: usize,
@@ -156,13 +157,13 @@ pub fn bergrosk_celled_train(
         subs.old codes.old) work.old) }
 {
     let s = celled_shape(d, nsub, bits, cells, probes);
-    let t = celled_train::train(
+    answers::train_answer(celled_train::train(
         s, epochs, n, rows, draws, coarse, starts, members, subs, codes, work,
-    );
-    answers::train_answer(t)
+    ))
 }
 
 // The whole check of a celled index.
+#[tactic(auto, unfolding(crate::specs::Face::check_faced))]
 pub fn bergrosk_celled_check(
     d: usize,
     nsub: usize,
@@ -182,11 +183,11 @@ pub fn bergrosk_celled_check(
         members.now subs.now codes.now) work.old) }
 {
     let s = celled_shape(d, nsub, bits, cells, probes);
-    let c = celled_check::check(s, n, coarse, starts, members, subs, codes, work);
-    answers::check_answer(c)
+    answers::check_answer(celled_check::check(s, n, coarse, starts, members, subs, codes, work))
 }
 
 // Search of a celled index.
+#[tactic(auto, unfolding(crate::specs::Face::celled_search_faced))]
 pub fn bergrosk_celled_search(
     d: usize,
     nsub: usize,
@@ -211,8 +212,7 @@ pub fn bergrosk_celled_search(
         (lent rows.old sums.old table.old)) }
 {
     let s = celled_shape(d, nsub, bits, cells, probes);
-    let t = celled_search::search(
+    answers::search_answer(celled_search::search(
         s, n, query, mask, coarse, starts, members, subs, codes, rows, sums, table,
-    );
-    answers::search_answer(t)
+    ))
 }

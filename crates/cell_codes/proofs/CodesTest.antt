@@ -1,38 +1,33 @@
 -- Laws on the codes test: the highest code of a run is below K where all are, and so are the codes of each row.
-use Prim.Native.Nat.{ℕ, zero, suc, ◌+◌, ◌*◌, ◌≤◌, ◌<◌}
-use mathlib.Core.Path.{◌≡◌, refl, sym, ◌∙◌, ap}
+use Prim.Native.Nat.{ℕ, zero, suc, max, ◌+◌, ◌*◌, ◌≤◌, ◌<◌}
+use mathlib.Core.Path.{◌≡◌, refl, ◌∙◌, ap}
 use mathlib.Core.Bool.{Bool, true, false, cond, not, ◌&&◌, ◌||◌}
 use mathlib.Core.List.{List}
 use native.Mathlib.Omega.{arith}
-use borrow.Author.Tests.{ltb-true, ltb-false, lt-ltb}
+use borrow.Author.Tests.{ltb-true, ltb-false, lt-ltb, le-ltb}
 use lib.ListN.{length, take, drop, length-take, length-drop}
 use lib.Seq.{get_or-drop, get_or-take}
 use lib.Dec.{ltb}
 use Rattle.lists.specs.Tests.{every}
 use Rattle.lists.proofs.Tests.{every-ext, every_of, every_true}
 use Rattle.lists.proofs.Joins.{within}
-use Rattle.lists.specs.Lists.{member_of}
 use Rattle.pq_params.specs.Bounds.{centers_of}
-use Rattle.cell_table.specs.declared.CellNumbers.{CellNumbers}
-use Rattle.cell_codes.specs.Codes.{rows_of, visible, rows_sound}
-use Rattle.cell_codes.specs.CodesInner.{codes_under}
+use Rattle.cell_table.specs.declared.CellView.{CellView}
+use Rattle.cell_codes.specs.Codes.{row_at, visible, cell_of, codes_sound}
+use Rattle.cell_codes.specs.CodesInner.{number_at, highest_of, under, codes_under, sound_at, Rows}
 use Rattle.cell_codes.proofs.Shown.{unless-kept}
-use Rattle.cell_codes.specs.CodesInner.{number_at, larger_of, highest_of, sound_at, Rows}
 
 abbrev below : (ℕ → ℕ) → ℕ → ℕ → Bool
 below g k i = ltb (g i) k
 
 -- the larger of two is below k where both are
-larger-below : (a b k : ℕ) → ltb (larger_of a b) k ≡ (ltb a k && ltb b k)
-larger-below a b k = go (ltb a b) refl (ltb a k) refl (ltb b k) refl
+larger-below : (a b k : ℕ) → ltb (max a b) k ≡ (ltb a k && ltb b k)
+larger-below a b k = go (ltb a k) refl (ltb b k) refl
   where
-    go : (t : Bool) → ltb a b ≡ t → (p : Bool) → ltb a k ≡ p → (q : Bool) → ltb b k ≡ q → ltb (cond t b a) k ≡ (p && q)
-    go true e true f q g = g
-    go true e false f true g = let x = ltb-true a b e in let y = ltb-false a k f in let z = ltb-true b k g in absurd (omega arith)
-    go true e false f false g = g
-    go false e true f true g = f
-    go false e true f false g = let x = ltb-false a b e in let y = ltb-true a k f in let z = ltb-false b k g in absurd (omega arith)
-    go false e false f q g = f
+    go : (p : Bool) → ltb a k ≡ p → (q : Bool) → ltb b k ≡ q → ltb (max a b) k ≡ (p && q)
+    go true e true f = let x = ltb-true a k e in let y = ltb-true b k f in lt-ltb _ _ (omega arith)
+    go true e false f = let y = ltb-false b k f in le-ltb _ _ (omega arith)
+    go false e q f = let x = ltb-false a k e in le-ltb _ _ (omega arith)
 
 -- the highest is below k where all are
 pub highest-below : (g : ℕ → ℕ) (k n : ℕ) → 0 < k → ltb (highest_of g n) k ≡ every (below g k) n
@@ -59,21 +54,16 @@ hidden_or : (v b : Bool) → b ≡ true → cond v b true ≡ true
 hidden_or true b e = e
 hidden_or false b e = refl
 
-module _ (z : CellNumbers) (mask codes members : List ℕ) (R : Rows z mask codes members) (centers : ℕ) where
-  -- where all codes are below K, every row is sound
-  pub all_sound : ((i : ℕ) → i < length codes → number_at codes i < centers) → every (sound_at z mask codes centers members) z.n ≡ true
-  all_sound h = every_of _ z.n (λ i k. hidden_or (visible mask (member_of z.celled members i)) _ (under (member_of z.celled members i) (R.numbered.inside i k)))
-    where
-      under : (m : ℕ) → m < length mask → codes_under codes z.shape.nsub centers m ≡ true
-      under m l = every_of _ z.shape.nsub (λ s j. lt-ltb _ _ (h (m * z.shape.nsub + s) (omega (arith, within m (length mask) z.shape.nsub l, R.codes-long))))
-
-  -- the highest of all is below K
-  pub highest-sound : 0 < centers → highest_of (number_at codes) (length codes) < centers → every (sound_at z mask codes centers members) z.n ≡ true
-  highest-sound k h =
-      let e = sym (highest-below (number_at codes) centers (length codes) k) ∙ lt-ltb _ _ h in
-      all_sound (λ i l. ltb-true _ _ (every_true (below (number_at codes) centers) (length codes) e i l))
+-- where all codes are below K, so are those of the shown rows
+pub all_sound : (z : CellView) → Rows z → (centers : ℕ) → every (under z.codes.now centers) (length z.codes.now) ≡ true → every (sound_at z centers) z.n ≡ true
+all_sound z R centers h =
+    every_of _ z.n (λ i k. hidden_or (visible z.mask.now (row_at z i)) _ (row_under (row_at z i) (R.numbered.inside i k)))
+  where
+    row_under : (m : ℕ) → m < length z.mask.now → codes_under z.codes.now z.shape.nsub centers m ≡ true
+    row_under m l =
+        every_of _ z.shape.nsub
+        (λ s j. every_true (under z.codes.now centers) (length z.codes.now) h (m * z.shape.nsub + s) (omega (arith, within m (length z.mask.now) z.shape.nsub l, R.codes-long)))
 
 -- row by row is the test of the shown rows
-pub sound-rows : (z : CellNumbers) (mask codes members : List ℕ) (centers : ℕ) → centers ≡ centers_of z.shape.bits
-    → every (sound_at z mask codes centers members) z.n ≡ rows_sound z.shape (visible mask) codes (rows_of z members)
-sound-rows z mask codes members centers e = rw e (unless-kept (visible mask) (member_of z.celled members) (codes_under codes z.shape.nsub (centers_of z.shape.bits)) z.n)
+pub sound-rows : (z : CellView) (centers : ℕ) → centers ≡ centers_of z.shape.bits → every (sound_at z centers) z.n ≡ codes_sound (cell_of z)
+sound-rows z centers e = rw e (unless-kept (visible z.mask.now) (row_at z) (codes_under z.codes.now z.shape.nsub (centers_of z.shape.bits)) z.n)

@@ -1,4 +1,8 @@
 -- Laws on the shown ones of the rows g 0, .., g (n - 1), which are all rows of an index or those of a list: how many they are, and what holds of all of them.
+use Rattle.std.proofs.Common.{MatchBool}
+use Rattle.std.specs.List.{HoldsAt, AllWithin, range_with_len}
+use Rattle.std.proofs.lemmas.List.FromFn.{length-range_with_len, get_or-range_with_len}
+use native.Mathlib.Nat.{zero-add}
 use Prim.Native.Nat.{ℕ, zero, suc, ◌≤◌, ◌<◌}
 use mathlib.Core.Path.{◌≡◌, refl, sym, ◌∙◌, ap, ap₂}
 use mathlib.Core.Bool.{Bool, true, false, not, ◌&&◌, true≢false}
@@ -82,6 +86,15 @@ module _ (v : ℕ → Bool) (g : ℕ → ℕ) where
 
   pub shown-some : (n i : ℕ) → i < n → v (g i) ≡ true → true ≡ not (eqb (length (keep v (tab g n))) 0)
   shown-some n i h e = let k = one_kept n i h e in rw (ne_eqb (length (keep v (tab g n))) 0 (λ z. omega arith))
+
+  -- one is shown, or all are hidden
+  pub any-shown : (n : ℕ) (r : Bool) → MatchBool r ((k : ℕ) × (k < length (range_with_len 0 n)) × HoldsAt (λ (k : ℕ). v (g k) ≡ true) (range_with_len 0 n) k) (AllWithin (λ (k : ℕ). v (g k) ≡ false) (range_with_len 0 n) 0 (length (range_with_len 0 n)))
+      → r ≡ not (eqb (length (keep v (tab g n))) 0)
+  any-shown n true w =
+      let h : w.0 < n = omega (arith, w.1, length-range_with_len 0 n) in
+      shown-some n w.0 h (rw (get_or-range_with_len 0 n w.0 0 h, zero-add) at (w.2 0))
+  any-shown n false w =
+      shown-none n (λ i h. rw (get_or-range_with_len 0 n i 0 h, zero-add) at (w i 0 (omega arith) (omega (arith, length-range_with_len 0 n))))
 
   -- what holds of the shown ones of the rows holds of each that is kept
   pub kept-all : (P : ℕ → Type 0) (n : ℕ) → ((k : ℕ) → k < n → v (g k) ≡ true → P (g k)) → (i : ℕ) → i < length (keep v (tab g n)) → P (get_or (keep v (tab g n)) i 0)

@@ -1,19 +1,38 @@
 -- The rows of one cell: which are visible, and step 3's test of their codes.
-use Rattle.std.specs.Prelude.{ℕ, ◌+◌, ◌*◌, List, Bool, not, get_or, length, eqb, ltb}
+use Rattle.std.specs.Prelude.{ℕ, ◌+◌, ◌*◌, List, Option, Bool, not, get_or, length, eqb, ltb, option_copied}
 use Rattle.lists.specs.Lists.{tab, member_of}
 use Rattle.lists.specs.Tests.{every, keep}
 use Rattle.pq_params.specs.declared.Shape.{Shape}
 use Rattle.pq_params.specs.Bounds.{centers_of}
-use Rattle.cell_table.specs.declared.CellNumbers.{CellNumbers}
-use Rattle.cell_table.specs.Tables.{Cell}
+use Rattle.cell_table.specs.declared.CellView.{CellView}
+use Rattle.cell_table.specs.Tables.{Cell, query_of}
 
--- a cell's rows, numbers as they stand in its list; the plain index's one cell has all rows
-abbrev pub rows_of : CellNumbers → List ℕ → List ℕ
-rows_of z members = tab (member_of z.celled members) z.n
+-- a cell's rows, n numbers as they stand in its list; the plain index's one cell has all rows
+abbrev pub rows_of : Option (List ℕ) → ℕ → List ℕ
+rows_of members n = tab (member_of members) n
+
+-- the i-th row of the cell that a search meets, and all of them
+abbrev pub row_at : CellView → ℕ → ℕ
+row_at z = member_of (option_copied z.members)
+
+abbrev pub rows_in : CellView → List ℕ
+rows_in z = rows_of (option_copied z.members) z.n
 
 -- a row mask: nonzero means visible
 abbrev pub visible : List ℕ → ℕ → Bool
 visible mask m = not (eqb (get_or mask m 0) 0)
+
+-- the cell that a search meets
+abbrev pub cell_of : CellView → Cell
+cell_of z = record {
+  shape = z.shape;
+  query = query_of z;
+  subs = z.subs.now;
+  cell = z.cell;
+  shown = visible z.mask.now;
+  codes = z.codes.now;
+  rows = rows_in z;
+}
 
 abbrev pub visible_rows : Cell → List ℕ
 visible_rows c = keep c.shown c.rows

@@ -1,26 +1,24 @@
--- Laws on the rows that are picked of a stretch: one more row, what holds of each, and whether a test holds of all.
-use Prim.Native.Nat.{ℕ, ◌+◌, ◌-◌, ◌≤◌, ◌<◌}
-use mathlib.Core.Path.{◌≡◌, refl, sym, ◌∙◌, ap}
-use mathlib.Core.Bool.{Bool, true, false, cond}
-use mathlib.Core.List.{List, [], ◌∷◌, ◌++◌}
-use native.Mathlib.Nat.{add-zero}
-use native.Mathlib.Numerals.{add-one}
-use native.Mathlib.Omega.{arith}
-use lib.ListN.{length, take, set, get_or}
-use lib.Seq.{take-suc-set, take-set-le, get_or-take, length-take-le}
+-- Laws on the rows that are picked of a stretch: one more row.
+use Rattle.std.proofs.Common.{◌≡◌, ℕ, ◌+◌, ◌-◌, ◌≤◌, ◌<◌, Bool, true, false, cond, List, [], ◌∷◌, ◌++◌, length, take, set, refl, sym, ◌∙◌, ap, add-one, add-zero, arith}
+use mir.Val.{bool_byte}
+use lib.Seq.{take-suc-set, take-set-le}
+use Rattle.std.proofs.lemmas.List.{map-set}
+use Rattle.std.specs.Prelude.{map}
+use lib.ListN.{length-map}
 use Rattle.lists.specs.Lists.{tab}
-use Rattle.lists.specs.Tests.{every, keep}
-use Rattle.lists.proofs.Tests.{every-ext, keep-yes, keep-no}
-use Rattle.cell_codes.specs.Codes.{of_all}
-use Rattle.cell_codes.proofs.Shown.{kept-all}
+use Rattle.lists.specs.Tests.{keep}
+use Rattle.lists.proofs.Tests.{keep-yes, keep-no}
+use Rattle.neighbor.specs.declared.Candidate.{Candidate}
+use Rattle.neighbor.specs.Neighbor.{row_of}
 use Rattle.cell_stretch.specs.StretchInner.{onwards, stretch_of}
 
-pub one-most : (b : Bool) → cond b 1 0 ≤ 1
-one-most true = omega arith
-one-most false = omega arith
+-- a row counts as 1 where it is shown, and else as 0
+pub one-if : (r : ℕ) (b b' : Bool) → r ≡ bool_byte b → b ≡ b' → (r ≡ cond b' 1 0) × (r ≤ 1)
+one-if r b true e f = let k : r ≡ 1 = e ∙ rw f in (k, omega arith)
+one-if r b false e f = let k : r ≡ 0 = e ∙ rw f in (k, omega arith)
 
 -- nothing is picked yet
-pub pick-none : (v : ℕ → Bool) (g : ℕ → ℕ) (from : ℕ) (picked : List ℕ) → stretch_of v g from from ≡ take 0 picked
+pub pick-none : (v : ℕ → Bool) (g : ℕ → ℕ) (from : ℕ) (picked : List Candidate) → stretch_of v g from from ≡ take 0 (map row_of picked)
 unfolding tab keep
 pick-none v g from picked = let e : from - from ≡ 0 = omega arith in rw e
 
@@ -37,22 +35,11 @@ pick_more v g i n r m picked h p e f = rw add-one (rw p (go (v (g i)) refl))
         let q : r ≡ 0 = e ∙ rw (p, d) in
         keep-no v (tab g i) (g i) d ∙ f ∙ rw (q, add-zero) (sym (take-set-le n picked n (g i) (omega arith)))
 
--- one more row m is stored, and picked if it is shown
-pub pick-step : (v : ℕ → Bool) (g : ℕ → ℕ) (from i n r m : ℕ) (picked : List ℕ) → from ≤ i → n < length picked → m ≡ g i → r ≡ cond (v m) 1 0 → stretch_of v g from i ≡ take n picked
-    → stretch_of v g from (i + 1) ≡ take (n + r) (set picked n m)
-pick-step v g from i n r m picked k h p e f =
+-- one more row is stored, and picked if it is shown
+pub pick-step : (v : ℕ → Bool) (g : ℕ → ℕ) (from i n r : ℕ) (c : Candidate) (picked : List Candidate) → from ≤ i → n < length picked → c.row ≡ g i → r ≡ cond (v c.row) 1 0
+    → stretch_of v g from i ≡ take n (map row_of picked) → stretch_of v g from (i + 1) ≡ take (n + r) (map row_of (set picked n c))
+pick-step v g from i n r c picked k h p e f =
     let a : (i + 1) - from ≡ (i - from) + 1 = omega arith in
     let b : i ≡ from + (i - from) = omega arith in
-    rw a (pick_more v (onwards g from) (i - from) n r m picked h (p ∙ ap g b) e f)
-
--- what holds of the shown rows of a stretch holds of each picked one
-pub picked_all : (P : ℕ → Type 0) (v : ℕ → Bool) (g : ℕ → ℕ) (from to r : ℕ) (picked : List ℕ) → r ≤ length picked → stretch_of v g from to ≡ take r picked
-    → ((k : ℕ) → k < to → v (g k) ≡ true → P (g k)) → (i : ℕ) → i < r → P (get_or picked i 0)
-picked_all P v g from to r picked l e h i k =
-    let w : i < length (stretch_of v g from to) = rw e (omega (arith, length-take-le r picked l)) in
-    rw (e, get_or-take r picked i 0 k) at (kept-all v (onwards g from) P (to - from) (λ j q. h (from + j) (omega arith)) i w)
-
--- a test of all picked rows
-pub all-picked : (f : ℕ → Bool) (picked : List ℕ) (r : ℕ) → r ≤ length picked → of_all f (take r picked) ≡ every (λ (i : ℕ). f (get_or picked i 0)) r
-all-picked f picked r h =
-    ap (every (λ (i : ℕ). f (get_or (take r picked) i 0))) (length-take-le r picked h) ∙ every-ext _ _ r (λ i k. ap f (get_or-take r picked i 0 k))
+    rw (a, map-set row_of picked n c)
+    (pick_more v (onwards g from) (i - from) n r c.row (map row_of picked) (omega (arith, length-map picked row_of)) (p ∙ ap g b) e f)

@@ -1,14 +1,14 @@
 -- One cell as a search meets it, and step 4: its table of distances.
-use Rattle.std.specs.Prelude.{ℕ, ◌+◌, ◌*◌, List, Bool, get_or, Float}
+use Rattle.std.specs.Prelude.{ℕ, ◌+◌, ◌*◌, List, Option, Bool, get_or, option_copied, Float}
 use Rattle.std.specs.Float.{nan}
 use Rattle.std.specs.Float.Ieee.Scale.{finite}
 use Rattle.lists.specs.Tests.{every}
-use Rattle.metrics.specs.Distance.{value_of, coordinate_in, coordinate, squared}
+use Rattle.metrics.specs.Distance.{value_in, squared}
 use Rattle.pq_params.specs.declared.Shape.{Shape}
 use Rattle.pq_params.specs.Bounds.{centers_of}
 use Rattle.pq_params.specs.Ranges.{begin_of, width_of, on_range}
 use Rattle.pq_params.specs.Lengths.{subs_long}
-use Rattle.cell_table.specs.declared.CellNumbers.{CellNumbers}
+use Rattle.cell_table.specs.declared.CellView.{CellView}
 
 pub record Cell : Type 0 where
   pub shape : Shape
@@ -23,8 +23,11 @@ pub record Cell : Type 0 where
   pub rows : List ℕ
 
 -- the query as a cell meets it: in a celled index less the cell's coarse centre
-abbrev pub query_for : CellNumbers → List Float → List Float → ℕ → Float
-query_for z query coarse j = value_of z.celled (coordinate_in query j) (coordinate coarse z.shape.d z.cell j)
+abbrev pub query_for : List Float → Option (List Float) → ℕ → Float
+query_for query center = value_in center query
+
+abbrev pub query_of : CellView → ℕ → Float
+query_of z = query_for z.query.now (option_copied z.center)
 
 -- coordinate j of centre q of sub-space s. Order: cell, sub-space, centre, coordinate.
 abbrev pub sub_coordinate : Shape → List Float → ℕ → ℕ → ℕ → ℕ → Float

@@ -8,7 +8,7 @@ use borrow.Author.Tests.{eqb-true}
 use lib.ListN.{length, take, drop, length-append, length-take, length-map}
 use lib.Seq.{drop_at, drop-append-add, take-nil}
 use lib.Ieee.{Float}
-use Rattle.lists.specs.Lists.{tab, fill, grid, member_of}
+use Rattle.lists.specs.Lists.{tab, fill, grid}
 use Rattle.lists.specs.Tests.{keep}
 use Rattle.lists.proofs.Tables.{length-tab, fill-add, tab-get_or}
 use Rattle.lists.proofs.Joins.{length-grid}
@@ -22,19 +22,21 @@ use Rattle.neighbor.proofs.Insertion.{length_inserted}
 use Rattle.neighbor.proofs.Order.{by-sum}
 use Rattle.neighbor.proofs.Sorted.{all_take, all_inserted, sorted-take, sorted-inserted}
 use Rattle.offers.proofs.Offers.{first_with, first-join}
-use Rattle.answers.specs.declared.Searched.{Searched}
-use Rattle.answers.specs.declared.Searched.TheVariants.{Done, Refused}
+use Rattle.std.specs.Prelude.{Some, None, Ok, Err}
+use Rattle.answers.specs.declared.Found.{Found}
+use Rattle.answers.specs.declared.Refusal.{Refusal}
+use Rattle.answers.specs.declared.Refusal.TheVariants.{DistanceNotFinite}
+use Rattle.answers.specs.Answers.{Searched}
 use Rattle.pq_params.specs.Bounds.{centers_of}
 use Rattle.pq_params.specs.Lengths.{table_long}
-use Rattle.cell_table.specs.declared.CellNumbers.{CellNumbers}
 use Rattle.cell_table.specs.Tables.{Cell, entry_at, table_finite}
 use Rattle.cell_codes.specs.Codes.{rows_of, visible_rows}
 use Rattle.cell_sums.specs.Sums.{sum_at, sums_finite}
 use Rattle.cell_walk.specs.Candidates.{nothing_shown, cell_finite, candidates}
-use Rattle.cell_walk.specs.Results.{Lent, lent, SearchOut, search_out, asked_of, blank}
+use Rattle.cell_walk.specs.Results.{Lent, lent, SearchOut, search_out, asked_of, answer_of, blank}
 use Rattle.cell_walk.specs.CellInner.{kept_of, table_after, cell_done, cell_outcome}
-use Rattle.cell_stretch.specs.StretchInner.{candidate_by}
-use Rattle.cell_walk.proofs.Walks.{finite-candidates}
+use Rattle.cell_sums.specs.SumsInner.{candidate_by}
+use Rattle.cell_stretch.proofs.Stretches.{finite-candidates}
 
 -- results that hold the first k of the candidates cs, in order, and blanks past them
 pub record Holding (k : ℕ) (cs : List Candidate) (rows : List ℕ) (sums : List Float) (found : ℕ) : Type 0 where
@@ -97,7 +99,7 @@ cell-candidates c t = go (nothing_shown c) refl t
 
 -- what the results hold then, and the answer
 pub record Next (k : ℕ) (cs : List Candidate) (c : Cell) (r : Searched) (rows' : List ℕ) (sums' : List Float) : Type 0 where
-  pub answer : r ≡ Done (length (first_of k (cs ++ candidates c))) (length (candidates c))
+  pub answer : r ≡ answer_of (length (first_of k (cs ++ candidates c))) (length (candidates c))
   pub holds : Holding k (cs ++ candidates c) rows' sums' (length (first_of k (cs ++ candidates c)))
 
 module _ (k : ℕ) (cs : List Candidate) (c : Cell) (rows : List ℕ) (sums table : List Float) (found : ℕ) (r : Searched) (rows' : List ℕ) (sums' table' : List Float)
@@ -159,7 +161,7 @@ module _ (k : ℕ) (cs : List Candidate) (c : Cell) (rows : List ℕ) (sums tabl
 
   pub holding-next : Next k cs c r rows' sums'
   holding-next = record {
-    answer = ap (λ (o : SearchOut). o.answer) done ∙ ap (λ (l : List Candidate). Done (length l) (length (candidates c))) kept-is;
+    answer = ap (λ (o : SearchOut). o.answer) done ∙ ap (λ (l : List Candidate). answer_of (length l) (length (candidates c))) kept-is;
     holds = record {
       rows_are = rows_then ∙ ap (λ (l : List ℕ). map row_of then ++ l) rows-blank;
       sums-are = sums-then ∙ ap (λ (l : List Float). map sum_of then ++ l) sums-blank;
@@ -172,10 +174,10 @@ module _ (k : ℕ) (cs : List Candidate) (c : Cell) (rows : List ℕ) (sums tabl
 
 pub cell-refused : (c : Cell) (l : Lent) (found : ℕ) (r : Searched) (rows' : List ℕ) (sums' table' : List Float) → cell_finite c ≡ false
     → search_out r rows' sums' table' ≡ cell_outcome c l found
-    → (r ≡ Refused 11) × (rows' ≡ result_rows (asked_of l) []) × (sums' ≡ result_sums (asked_of l) []) × (table' ≡ fill zero32 (length l.table))
+    → (r ≡ Err DistanceNotFinite) × (rows' ≡ result_rows (asked_of l) []) × (sums' ≡ result_sums (asked_of l) []) × (table' ≡ fill zero32 (length l.table))
 unfolding cell_outcome
 cell-refused c l found r rows' sums' table' f e =
-    let b : search_out r rows' sums' table' ≡ blank l 11 = e ∙ rw f in
+    let b : search_out r rows' sums' table' ≡ blank l DistanceNotFinite = e ∙ rw f in
     (ap (λ (o : SearchOut). o.answer) b, ap (λ (o : SearchOut). o.rows) b, ap (λ (o : SearchOut). o.sums) b, ap (λ (o : SearchOut). o.table) b)
 
 few-shown : (f : ℕ → Bool) (l : List ℕ) → length (keep f l) ≤ length l
@@ -195,25 +197,23 @@ candidates-few c = omega (arith, length-map (visible_rows c) (candidate_by (sum_
 -- ---- which of the two it was, and the table
 
 module _ (c : Cell) (l : Lent) (found : ℕ) (r : Searched) (rows' : List ℕ) (sums' table' : List Float) (e : search_out r rows' sums' table' ≡ cell_outcome c l found) where
-  pub cell-done : (all scored : ℕ) → r ≡ Done all scored → cell_finite c ≡ true
-  cell-done all scored d = go (cell_finite c) refl
+  pub cell-done : (a : Found) → r ≡ Ok a → cell_finite c ≡ true
+  cell-done a d = go (cell_finite c) refl
     where
       go : (b : Bool) → cell_finite c ≡ b → cell_finite c ≡ true
       go true f = f
       go false f =
-          let a : r ≡ Refused 11 = (cell-refused c l found r rows' sums' table' f e).0 in
-          let z : ◌≡◌ {A = ℕ} 0 1 = cc in
-          absurd (omega arith)
+          let q : r ≡ Err DistanceNotFinite = (cell-refused c l found r rows' sums' table' f e).0 in
+          cc
 
-  pub cell-broke : (number : ℕ) → r ≡ Refused number → cell_finite c ≡ false
+  pub cell-broke : (why : Refusal) → r ≡ Err why → cell_finite c ≡ false
   unfolding cell_outcome
-  cell-broke number d = go (cell_finite c) refl
+  cell-broke why d = go (cell_finite c) refl
     where
       go : (b : Bool) → cell_finite c ≡ b → cell_finite c ≡ false
       go true f =
-          let a : r ≡ (cell_done c l (kept_of c l found)).answer = ap (λ (o : SearchOut). o.answer) e ∙ rw f in
-          let z : ◌≡◌ {A = ℕ} 0 1 = cc in
-          absurd (omega arith)
+          let q : r ≡ (cell_done c l (kept_of c l found)).answer = ap (λ (o : SearchOut). o.answer) e ∙ rw f in
+          cc
       go false f = f
 
   pub table-next : cell_finite c ≡ true → table' ≡ table_after c l.table
@@ -230,8 +230,8 @@ table-after-long c table l = go (nothing_shown c)
 
 -- ---- the rows of the two kinds of cell
 
-pub rows_all : (z : CellNumbers) (members : List ℕ) → z.celled ≡ false → rows_of z members ≡ tab (λ (m : ℕ). m) z.n
-rows_all z members e = ap (λ (b : Bool). tab (member_of b members) z.n) e
+pub rows_all : (n : ℕ) → rows_of None n ≡ tab (λ (m : ℕ). m) n
+rows_all n = refl
 
-pub rows-listed : (z : CellNumbers) (members : List ℕ) → z.celled ≡ true → z.n ≤ length members → rows_of z members ≡ take z.n members
-rows-listed z members e h = ap (λ (b : Bool). tab (member_of b members) z.n) e ∙ tab-get_or members z.n 0 h
+pub rows-listed : (members : List ℕ) (n : ℕ) → n ≤ length members → rows_of (Some members) n ≡ take n members
+rows-listed members n h = tab-get_or members n 0 h

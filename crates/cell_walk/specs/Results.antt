@@ -1,9 +1,8 @@
 -- What a search is lent for its results, and what each of its ends says and leaves there.
-use Rattle.std.specs.Prelude.{ℕ, List, [], ◌∷◌, Bool, length, Float}
-use Rattle.answers.specs.declared.Searched.{Searched}
-use Rattle.answers.specs.declared.Searched.TheVariants.{Done, Refused}
+use Rattle.std.specs.Prelude.{ℕ, List, [], ◌∷◌, Bool, Ok, Err, length, Float}
+use Rattle.answers.specs.declared.Refusal.{Refusal}
 use Rattle.answers.specs.declared.SearchAnswer.{SearchAnswer}
-use Rattle.answers.specs.Answers.{search_said}
+use Rattle.answers.specs.Answers.{Searched, number_of, search_said}
 use Rattle.lists.specs.Lists.{fill}
 use Rattle.metrics.specs.Distance.{zero32}
 use Rattle.neighbor.specs.declared.Candidate.{Candidate}
@@ -41,17 +40,21 @@ abbrev pub lent_lengths : Lent → Shape → List Bool
 lent_lengths l z = not_long l.sums (asked_of l) ∷ not_long l.table (table_long z) ∷ []
 
 -- found, the places filled, and scored, the number of candidates; both are 0 in a refusal
-abbrev pub said_refused : ℕ → SearchAnswer
-said_refused number = record { number = number; found = 0; scored = 0 }
+abbrev pub said_refused : Refusal → SearchAnswer
+said_refused why = record { number = number_of why; found = 0; scored = 0 }
 
 abbrev pub said_done : ℕ → ℕ → SearchAnswer
 said_done found scored = record { number = 0; found = found; scored = scored }
 
+-- the answer of a search that was not refused
+abbrev pub answer_of : ℕ → ℕ → Searched
+answer_of found scored = Ok (record { found = found; scored = scored })
+
 -- refusals 1 to 6: nothing changed
-abbrev pub unchanged : Lent → ℕ → SearchOut
-unchanged l number = record {
-  answer = Refused number;
-  said = said_refused number;
+abbrev pub unchanged : Lent → Refusal → SearchOut
+unchanged l why = record {
+  answer = Err why;
+  said = said_refused why;
   rows = l.rows;
   sums = l.sums;
   table = l.table;
@@ -68,11 +71,11 @@ holding l cs answer said = record {
 }
 
 -- refusals 10 and 11: results blank, table zero
-abbrev pub blank : Lent → ℕ → SearchOut
-blank l number = holding l [] (Refused number) (said_refused number)
+abbrev pub blank : Lent → Refusal → SearchOut
+blank l why = holding l [] (Err why) (said_refused why)
 
 -- The answer is the first k of the ordered candidates.
 abbrev pub answered : Lent → List Candidate → SearchOut
 answered l cs =
     let first = first_of (asked_of l) cs in
-    holding l first (Done (length first) (length cs)) (said_done (length first) (length cs))
+    holding l first (answer_of (length first) (length cs)) (said_done (length first) (length cs))

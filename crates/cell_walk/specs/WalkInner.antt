@@ -1,16 +1,17 @@
 -- What the steps of the walk promise to one another: of the rows g 0, g 1, .. of a cell, which v shows, and whose sums are f.
-use Rattle.std.specs.Prelude.{ℕ, ◌≡◌, Bool, true, cond, List, [], ◌++◌, map, length, take, drop, Float}
+use Rattle.std.specs.Prelude.{ℕ, ◌≡◌, Bool, true, cond, Err, List, [], ◌++◌, map, length, take, drop, Float}
 use Rattle.lists.specs.Lists.{tab, fill}
 use Rattle.lists.specs.Tests.{keep}
 use Rattle.metrics.specs.Distance.{zero32}
 use Rattle.neighbor.specs.declared.Candidate.{Candidate}
 use Rattle.neighbor.specs.Neighbor.{comes_before, insert_all, row_of, sum_of, result_rows, result_sums}
 use Rattle.neighbor.specs.Held.{held}
-use Rattle.answers.specs.declared.Searched.{Searched}
-use Rattle.answers.specs.declared.Searched.TheVariants.{Done, Refused}
+use Rattle.answers.specs.declared.Refusal.TheVariants.{DistanceNotFinite}
+use Rattle.answers.specs.Answers.{Searched}
 use Rattle.cell_table.specs.TablesInner.{finite_at}
 use Rattle.cell_codes.specs.Codes.{of_all}
-use Rattle.cell_stretch.specs.StretchInner.{candidate_by}
+use Rattle.cell_sums.specs.SumsInner.{candidate_by}
+use Rattle.cell_walk.specs.Results.{answer_of}
 
 -- ---- the rows done
 
@@ -30,9 +31,9 @@ finite_to f v g i = of_all (finite_at f) (shown_to v g i)
 abbrev pub staying : List Candidate → List ℕ → List Float → ℕ → List Candidate
 staying cs rows sums found = take (length rows) (insert_all comes_before (held rows sums found) cs)
 
--- the answer: the places held then, and how many rows were scored; or 11, if a shown row's sum is not finite
+-- the answer: the places held then, and how many rows were scored; or the refusal, if a shown row's sum is not finite
 abbrev pub walk_answer : Bool → List Candidate → List Candidate → Searched
-walk_answer finite kept cs = cond finite (Done (length kept) (length cs)) (Refused 11)
+walk_answer finite kept cs = cond finite (answer_of (length kept) (length cs)) (Err DistanceNotFinite)
 
 -- those that stay, and the places past them as they were
 abbrev pub stay_rows : List Candidate → List ℕ → List ℕ

@@ -1,11 +1,9 @@
 -- Celled training: coarse k-means, then lists, then cells rising and in each the sub-spaces rising, draws running through all.
-use Rattle.std.specs.Prelude.{ℕ, zero, suc, List, cond, get_or, length, eqb, Float}
+use Rattle.std.specs.Prelude.{ℕ, zero, suc, List, Ok, cond, get_or, length, eqb, Float}
 use Rattle.lists.specs.Lists.{fill}
 use Rattle.metrics.specs.Distance.{zero32}
-use Rattle.answers.specs.declared.Trained.{Trained}
-use Rattle.answers.specs.declared.Trained.TheVariants.{Done}
 use Rattle.answers.specs.declared.Stage.TheVariants.{Coarse}
-use Rattle.answers.specs.Answers.{staged, go_on, draws_used}
+use Rattle.answers.specs.Answers.{Trained, staged, go_on, draws_used}
 use Rattle.pq_params.specs.declared.CelledShape.{CelledShape}
 use Rattle.pq_params.specs.Lengths.{subs_long}
 use Rattle.kmeans_assign.specs.Task.{Task}
@@ -70,7 +68,7 @@ cell_rows i c used = record {
 abbrev pub cell_answer : Given → ℕ → ℕ → Trained
 cell_answer i c used =
     let trained = answer_of (cell_rows i c used) in
-    cond (eqb (length (list_of i c)) 0) (Done used) trained
+    cond (eqb (length (list_of i c)) 0) (Ok used) trained
 
 -- the answer after the coarse k-means and the cells below c
 unfoldable pub reached_cell : Given → ℕ → Trained

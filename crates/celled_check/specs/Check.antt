@@ -1,10 +1,10 @@
 -- The whole check of a celled index, for any input: the answer, and work afterwards.
-use Rattle.std.specs.Prelude.{ℕ, List, [], ◌∷◌, ◌++◌, Bool, cond, ◌&&◌, length, eqb}
+use Rattle.std.specs.Prelude.{ℕ, List, [], ◌∷◌, ◌++◌, Ok, Err, Bool, cond, ◌&&◌, length, eqb}
 use Rattle.lists.specs.Lists.{fill}
 use Rattle.lists.specs.Tests.{any_of, every}
-use Rattle.answers.specs.declared.Checked.{Checked}
-use Rattle.answers.specs.declared.Checked.TheVariants.{Accepted, Refused}
-use Rattle.answers.specs.Answers.{check_said}
+use Rattle.answers.specs.declared.Refusal.{Refusal}
+use Rattle.answers.specs.declared.Refusal.TheVariants.{Damaged}
+use Rattle.answers.specs.Answers.{Checked, unless, number_of, check_said}
 use Rattle.pq_params.specs.Bounds.{bad_celled}
 use Rattle.pq_params.specs.Lengths.{celled_of}
 use Rattle.pq_params.specs.Codes.{codes_below}
@@ -48,21 +48,21 @@ check_out answer work = record { answer = answer; number = check_said answer; wo
 abbrev pub check_lengths : CheckIn → List Bool
 check_lengths i = index_lengths i.index ++ (not_long i.work (celled_of i.index.shape i.index.n).work ∷ [])
 
-abbrev pub check_refusal : CheckIn → ℕ
+abbrev pub check_refusal : CheckIn → Checked
 check_refusal i = check_tests (bad_celled i.index.shape) i.index.n (any_of (check_lengths i))
 
 -- 1 to 7 leave nothing changed, 10 leaves work zero
-abbrev pub unchanged : CheckIn → ℕ → CheckOut
-unchanged i number = record { answer = Refused number; number = number; work = i.work }
+abbrev pub unchanged : CheckIn → Refusal → CheckOut
+unchanged i r = record { answer = Err r; number = number_of r; work = i.work }
 
 abbrev pub accepted : CheckIn → CheckOut
-accepted i = record { answer = Accepted; number = 0; work = fill 0 (length i.work) }
+accepted i = record { answer = Ok tt; number = 0; work = fill 0 (length i.work) }
 
 abbrev pub damaged : CheckIn → CheckOut
-damaged i = record { answer = Refused 10; number = 10; work = fill 0 (length i.work) }
+damaged i = record { answer = Err Damaged; number = 10; work = fill 0 (length i.work) }
 
 abbrev pub checked : CheckIn → CheckOut
 checked i = cond (index_sound i.index) (accepted i) (damaged i)
 
 unfoldable pub check_outcome : CheckIn → CheckOut
-check_outcome i = cond (eqb (check_refusal i) 0) (checked i) (unchanged i (check_refusal i))
+check_outcome i = unless (check_refusal i) (checked i) (unchanged i)

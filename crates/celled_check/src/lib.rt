@@ -1,62 +1,52 @@
 // The whole check of a celled index: refusals first, then one walk each of the starts, the cells' lists, the members and the codes.
 // While it runs, the lent work holds how often each row number stands in the members.
+// The entry point's parameters stay flat, as C lends them.
 #![tactic(auto)]
 
-ghost use Rattle.std.specs.Prelude.{true, ◌≡◌, [], ◌≤◌, length};
+ghost use Rattle.std.specs.Prelude.{true, ◌≡◌, ◌≤◌, length};
 ghost use Rattle.lists.specs.Tests.{every};
 ghost use Rattle.celled_lists.specs.Lists.{starts_sound, is_below};
-ghost use Rattle.celled_lists.specs.Index.{index_of};
+ghost use Rattle.celled_lists.specs.Index.{index_in, index_of};
 ghost use Rattle.celled_check.specs.Check.{cell_sound, check_in, check_out, checked, check_outcome};
 ghost use Rattle.celled_check.specs.CheckInner.{refusal_by, is_one, cells_sound, Lists, Once, Ready};
 
-use answers::Checked;
-use celled_lists::IndexLengths;
+use answers::Refusal;
+use celled_lists::CelledIndex;
 use pq_params::CelledShape;
 
-// Tests 1, 3, 4 in that order: the number of the first that refuses, or 0.
-fn check_refusal(s: CelledShape, n: usize, l: IndexLengths, work: usize) -> u32
-    ensures { result ≡ refusal_by s n l work }
+// Tests 1, 3, 4 in that order: the first that refuses.
+fn check_refusal(x: &CelledIndex<'_>, work: usize) -> Result<(), Refusal>
+    ensures { result ≡ refusal_by (index_in x.now) work }
 {
-    let bad = pq_params::bad_celled(s);
-    let long = pq_params::celled_lengths(s, n);
-    let index = celled_lists::bad_index_lengths(s, n, l);
-    pq_params::check_refusal(bad, n, index | (work != long.work))
+    let bad = pq_params::bad_celled(x.shape);
+    let long = pq_params::celled_lengths(x.shape, x.n);
+    let index = celled_lists::bad_index_lengths(x.shape, x.n, x.lengths());
+    pq_params::check_refusal(bad, x.n, index | (work != long.work))
 }
 
 // Whether the list of every cell is sound.
-fn lists_sound(starts: &[u32], members: &[u32], cells: usize, n: usize) -> bool
-    requires { Lists starts.now members.now cells n × (starts_sound starts.now cells n ≡ true) }
-    ensures { result ≡ every (cell_sound starts.now members.now n) cells }
+fn lists_sound(x: &CelledIndex<'_>) -> bool
+    requires { let i = index_in x.now in Lists i × (starts_sound i.starts i.shape.cells i.n ≡ true) }
+    ensures { let i = index_in x.now in result ≡ every (cell_sound i.starts i.members i.n) i.shape.cells }
 {
-    let mut sound = true;
-    for c in 0..cells {
-        let a = lists::wide(starts[c]);
-        let e = lists::wide(starts[c + 1]);
-        sound = sound & celled_lists::list_sound(&members[a..e], n);
-    }
-    sound
+    (0..x.shape.cells).all(|c| celled_lists::list_sound(x.list(c), x.n))
 }
 
 // Whether the starts are sound, and then the lists.
-fn cells_sound(starts: &[u32], members: &[u32], cells: usize, n: usize) -> bool
-    requires { Lists starts.now members.now cells n }
-    ensures { result ≡ cells_sound starts.now members.now cells n }
+fn cells_sound(x: &CelledIndex<'_>) -> bool
+    requires { Lists (index_in x.now) }
+    ensures { result ≡ cells_sound (index_in x.now) }
 {
-    if celled_lists::starts_sound(starts, cells, n) {
-        lists_sound(starts, members, cells, n)
-    } else {
-        false
-    }
+    celled_lists::starts_sound(x.starts, x.shape.cells, x.n) && lists_sound(x)
 }
 
-// Whether each of the first n counts is 1.
-fn all_one(counts: &[u32], n: usize) -> bool
-    requires { n ≤ length counts.now }
-    ensures { result ≡ every (is_one counts.now) n }
+// Whether each of the counts is 1.
+fn all_one(counts: &[u32]) -> bool
+    ensures { result ≡ every (is_one counts.now) (length counts.now) }
 {
     let mut one = true;
-    for m in 0..n {
-        one = one & (counts[m] == 1);
+    for count in counts {
+        one &= *count == 1;
     }
     one
 }
@@ -67,44 +57,35 @@ fn rows_once(members: &[u32], n: usize, work: &mut [u32]) -> bool
     ensures { Once members.now work.old n result work.new }
 {
     celled_lists::count_rows(members, work);
-    let once = all_one(work, n);
-    lists::fill_numbers(work, 0);
+    let once = all_one(&work[..n]);
+    lists::fill(work, 0);
     once
 }
 
-// Whether every code is below K.
+// Whether every code is below K. (Row numbers have a test of their own: no trait makes both a u8 and a u32 a usize.)
 fn codes_below(codes: &[u8], centers: usize) -> bool
     ensures { result ≡ every (is_below codes.now centers) (length codes.now) }
 {
     let mut below = true;
-    for p in 0..codes.len() {
-        below = below & (lists::wide_byte(codes[p]) < centers);
+    for code in codes {
+        below &= (*code as usize) < centers;
     }
     below
 }
 
 // The check of an index that tests 1, 3 and 4 let pass: list or code damage refuses with 10.
-fn check_ready(
-    s: CelledShape,
-    n: usize,
-    starts: &[u32],
-    members: &[u32],
-    codes: &[u8],
-    work: &mut [u32],
-) -> Checked
-    requires { Ready s n starts.now members.now codes.now work.old }
-    ensures { check_out result work.new ≡
-        checked (check_in (index_of s n [] starts.now members.now [] codes.now) work.old) }
+fn check_ready(x: &CelledIndex<'_>, work: &mut [u32]) -> Result<(), Refusal>
+    requires { Ready (index_in x.now) work.old }
+    ensures { check_out result work.new ≡ checked (check_in (index_in x.now) work.old) }
 {
-    let p = s.plain;
-    let centers = pq_params::centers(p.bits);
-    let in_order = cells_sound(starts, members, s.cells, n);
-    let once = rows_once(members, n, work);
-    let below = codes_below(codes, centers);
+    let centers = pq_params::centers(x.shape.plain.bits);
+    let in_order = cells_sound(x);
+    let once = rows_once(x.members, x.n, work);
+    let below = codes_below(x.codes, centers);
     if in_order & once & below {
-        Checked::Accepted
+        Ok(())
     } else {
-        Checked::Refused(10)
+        Err(Refusal::Damaged)
     }
 }
 
@@ -119,20 +100,19 @@ pub fn check(
     subs: &[f32],
     codes: &[u8],
     work: &mut [u32],
-) -> Checked
+) -> Result<(), Refusal>
     ensures { check_out result work.new ≡ check_outcome (check_in (index_of s n coarse.now starts.now
         members.now subs.now codes.now) work.old) }
 {
-    let l = IndexLengths {
-        coarse: coarse.len(),
-        starts: starts.len(),
-        members: members.len(),
-        subs: subs.len(),
-        codes: codes.len(),
+    let x = CelledIndex {
+        shape: s,
+        n,
+        coarse,
+        starts,
+        members,
+        subs,
+        codes,
     };
-    let number = check_refusal(s, n, l, work.len());
-    if number != 0 {
-        return Checked::Refused(number);
-    }
-    check_ready(s, n, starts, members, codes, work)
+    check_refusal(&x, work.len())?;
+    check_ready(&x, work)
 }

@@ -1,20 +1,23 @@
 -- The slices of one cell: its list among the members, its centre among the coarse centres, and its sub-centres.
-use Prim.Native.Nat.{ℕ, suc, ◌+◌, ◌*◌, ◌≤◌, ◌<◌}
+use Prim.Native.Nat.{ℕ, suc, ◌+◌, ◌-◌, ◌*◌, ◌≤◌, ◌<◌}
 use mathlib.Core.Path.{◌≡◌, sym, ◌∙◌, ap}
 use mathlib.Core.List.{List}
 use native.Mathlib.Numerals.{add-one}
 use native.Mathlib.Omega.{arith}
 use lib.ListN.{length, get_or}
 use lib.Ieee.{Float}
-use Rattle.lists.specs.Lists.{part}
+use Rattle.std.specs.Prelude.{IfSome, option_copied}
+use Rattle.lists.specs.Lists.{part, Part}
 use Rattle.lists.proofs.Parts.{get_or-part}
 use Rattle.lists.proofs.Joins.{within}
 use Rattle.pq_params.specs.declared.CelledShape.{CelledShape}
 use Rattle.pq_params.specs.Lengths.{subs_long}
+use Rattle.pq_train.specs.declared.RowList.{RowList}
+use Rattle.celled_lists.specs.Lists.{ListHeld, start_of}
 use Rattle.celled_lists.specs.Cells.{cell_list, cell_start}
 use Rattle.celled_lists.specs.Inner.{place_of}
 use Rattle.celled_lists.proofs.CellLists.{begins, first-start, last-start, list-row, place-below}
-use Rattle.celled_lists.proofs.Filled.{start_is, start-next, starts-long, list-within, list-part, member_below, member-at}
+use Rattle.celled_lists.proofs.Filled.{start_is, list-lies, list-taken, list-part, member_below, member-at}
 use Rattle.celled_fill.specs.Fill.{cell_at, filled_code, filled_codes}
 use Rattle.celled_fill.specs.FillInner.{coded_to, row_code, cell_code, coded_cell, Listed, Coding}
 use Rattle.celled_fill.proofs.Coarse.{celled}
@@ -34,38 +37,31 @@ module _ {s : CelledShape} {rows coarse : List Float} {starts members : List ℕ
   abbrev list : ℕ → List ℕ
   list = cell_list to n
 
-  -- the starts are one more than the cells
-  pub starts_more : length starts ≡ suc s.cells
-  starts_more = starts-long (celled h.held) h.filled.started h.filled.listed
-
   module _ (c : ℕ) (below : c < s.cells) where
-    -- where the list of cell c begins and ends, that it lies within the members, and which rows it has
-    pub list-ends : get_or starts (c + 1) 0 ≡ get_or starts c 0 + length (list c)
-    list-ends = start-next (celled h.held) h.filled.started h.filled.listed c below
-
-    pub list_inside : get_or starts c 0 + length (list c) ≤ length members
-    list_inside = list-within (celled h.held) h.filled.started h.filled.listed c below
+    -- it has a list, which lies within the members
+    pub list_inside : ListHeld starts members c
+    list_inside = list-lies (celled h.held) h.filled.started h.filled.listed c below
 
     pub list-is : part members (get_or starts c 0) (length (list c)) ≡ list c
     list-is = list-part (celled h.held) h.filled.started h.filled.listed c below
 
-    -- its centre lies within the coarse centres, and its sub-centres within the sub-centres
-    pub center-held : c * s.plain.d + s.plain.d ≤ length coarse
-    center-held = omega (arith, within c s.cells s.plain.d below, h.held.coarse-long)
+    pub list-given : (l : List ℕ) → Part members (start_of starts c) (start_of starts (suc c) - start_of starts c) l → l ≡ list c
+    list-given l p = list-taken (celled h.held) h.filled.started h.filled.listed c l below p
 
+    -- its sub-centres lie within the sub-centres
     pub subs-held : c * subs_long s.plain + subs_long s.plain ≤ length subs
     subs-held = omega (arith, within c s.cells (subs_long s.plain) below, h.subs-long)
 
     -- its rows can be coded
-    pub listed : (l : List ℕ) (center own : List Float) → l ≡ list c → length center ≡ s.plain.d → length own ≡ subs_long s.plain
-        → Listed s.plain rows l center own codes
-    listed l center own e p q = rw e (record {
-      good = h.held.good;
-      row-held = λ k u. omega (arith, within (get_or (list c) k 0) n s.plain.d (list-row to n c k u).0, h.held.rows_long);
-      code-held = λ k u. omega (arith, within (get_or (list c) k 0) n s.plain.nsub (list-row to n c k u).0, h.codes-long);
-      center-long = p;
-      subs-long = q;
-    })
+    pub listed : (l : RowList) (m : List ℕ) (own : List Float) → l.shape ≡ s.plain → l.rows.now ≡ rows → IfSome (option_copied l.center) (λ x. l.shape.d ≤ length x)
+        → m ≡ list c → length own ≡ subs_long s.plain → Listed l m own codes
+    listed l m own z r w e q = record {
+      good = rw z h.held.good;
+      row-held = rw (z, r, e) (λ k u. omega (arith, within (get_or (list c) k 0) n s.plain.d (list-row to n c k u).0, h.held.rows_long));
+      code-held = rw (z, e) (λ k u. omega (arith, within (get_or (list c) k 0) n s.plain.nsub (list-row to n c k u).0, h.codes-long));
+      center-long = w;
+      subs-long = rw z q;
+    }
 
     -- and what is then put in is what the walk of its list puts in
     pub cell-coded : (l : List ℕ) (center own : List Float) (w : ℕ) (out : List ℕ) → l ≡ list c → center ≡ part coarse (c * s.plain.d) s.plain.d

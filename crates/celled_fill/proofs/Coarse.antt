@@ -1,19 +1,18 @@
 -- The coarse centres' frame is held by the rows; what is assigned by it is the cell of each row; and the lists are those of these cells.
-use Prim.Native.Nat.{ℕ, ◌+◌, ◌*◌, ◌≤◌, ◌<◌}
+use Prim.Native.Nat.{ℕ, ◌+◌, ◌*◌, ◌<◌}
 use mathlib.Core.Path.{◌≡◌, ◌∙◌, ap}
 use mathlib.Core.List.{List, ◌++◌}
-use mathlib.Core.Bool.{false≢true}
 use native.Mathlib.Nat.{add-zero}
 use native.Mathlib.Omega.{arith}
 use lib.ListN.{length, get_or, get_or-append}
 use lib.Ieee.{Float, nan}
+use Rattle.std.specs.Prelude.{None}
 use Rattle.lists.specs.Lists.{tab}
 use Rattle.lists.proofs.Tables.{tab-ext, length-tab, get_or-tab}
-use Rattle.lists.proofs.Joins.{within, join-ext}
+use Rattle.lists.proofs.Joins.{join-ext}
 use Rattle.metrics.specs.Distance.{value_of}
 use Rattle.pq_params.specs.declared.CelledShape.{CelledShape}
-use Rattle.pq_params.proofs.Numbers.{numbers}
-use Rattle.kmeans_assign.specs.Task.{value_at, row_task, Framed}
+use Rattle.kmeans_assign.specs.Task.{value_at, row_task}
 use Rattle.kmeans_assign.specs.Assign.{assigned_of}
 use Rattle.kmeans_assign.proofs.Choosing.{nearest-lt, chosen-ext}
 use Rattle.pq_train.specs.Training.{row_at}
@@ -24,35 +23,18 @@ use Rattle.celled_fill.specs.Fill.{cell_at}
 use Rattle.celled_fill.specs.FillInner.{coarse_frame, Rows, Lists}
 
 -- the frame's values are the rows'
-pub coarse-value : (s : CelledShape) (n : ℕ) (rows : List Float) (members : List ℕ) (residual : List Float) (k j : ℕ)
-    → value_at (coarse_frame s n) rows members residual k j ≡ row_at rows s.plain.d k j
+pub coarse-value : (s : CelledShape) (n : ℕ) (rows : List Float) (k j : ℕ)
+    → value_at (coarse_frame s n) rows None None k j ≡ row_at rows s.plain.d k j
 unfolding value_of
-coarse-value s n rows members residual k j = ap (λ (x : ℕ). get_or rows (x + j) nan) (add-zero (k * s.plain.d))
+coarse-value s n rows k j = ap (λ (x : ℕ). get_or rows (x + j) nan) (add-zero (k * s.plain.d))
 
 -- so each row is assigned to its cell
-pub coarse-assigned : (s : CelledShape) (n : ℕ) (rows coarse : List Float) (members : List ℕ) (residual : List Float)
-    → assigned_of (row_task (coarse_frame s n) rows members residual) coarse ≡ tab (cell_at s coarse rows) n
-coarse-assigned s n rows coarse members residual =
-    tab-ext _ (cell_at s coarse rows) n (λ k h. chosen-ext _ (row_at rows s.plain.d k) coarse s.plain.d s.cells (λ j l. coarse-value s n rows members residual k j))
+pub coarse-assigned : (s : CelledShape) (n : ℕ) (rows coarse : List Float)
+    → assigned_of (row_task (coarse_frame s n) rows None None) coarse ≡ tab (cell_at s coarse rows) n
+coarse-assigned s n rows coarse =
+    tab-ext _ (cell_at s coarse rows) n (λ k h. chosen-ext _ (row_at rows s.plain.d k) coarse s.plain.d s.cells (λ j l. coarse-value s n rows k j))
 
 module _ {s : CelledShape} {n : ℕ} {rows coarse : List Float} (h : Rows s n rows coarse) where
-  -- the first row lies within the rows
-  pub first-row : 0 + s.plain.d ≤ length rows
-  first-row = omega (arith, within 0 n s.plain.d h.some-row, h.rows_long)
-
-  pub coarse-framed : (members : List ℕ) (residual : List Float) → length residual ≡ s.plain.d → Framed (coarse_frame s n) rows members residual
-  coarse-framed members residual e = record {
-    some-row = h.some-row;
-    rows-le = h.rows-le;
-    some-center = h.some-cell;
-    centers-le = h.cells-le;
-    inside = omega arith;
-    wide = (numbers s.plain h.good).d-most;
-    residual-long = e;
-    listed-long = λ p. absurd (false≢true p);
-    held = λ k p. omega (arith, within k n s.plain.d p, h.rows_long);
-  }
-
   -- each row has a cell
   pub celled : (m : ℕ) → m < n → cell_at s coarse rows m < s.cells
   celled m k = nearest-lt _ s.cells h.some-cell

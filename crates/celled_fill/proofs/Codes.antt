@@ -2,13 +2,14 @@
 use Prim.Native.Nat.{ℕ, zero, suc, ◌+◌, ◌*◌, ◌≤◌, ◌<◌}
 use mathlib.Core.Path.{◌≡◌, refl, sym, ◌∙◌}
 use mathlib.Core.List.{List}
-use mathlib.Core.Bool.{true, false}
+use mathlib.Core.Bool.{false}
 use native.Mathlib.Nat.{add-zero, add-suc}
 use native.Mathlib.Decide.{dec_lt}
 use native.Mathlib.Numerals.{add-one}
 use native.Mathlib.Omega.{arith}
 use lib.ListN.{length, get_or}
 use lib.Ieee.{Float, nan}
+use Rattle.std.specs.Prelude.{Some}
 use Rattle.lists.specs.Lists.{part, put_part, tab, grid}
 use Rattle.lists.proofs.Tables.{last_or, length-tab, get_or-tab, tab-ext}
 use Rattle.lists.proofs.Parts.{get_or-part, get_or-put_part-in, get_or-put_part-before, get_or-put_part-after, length-put_part}
@@ -101,7 +102,7 @@ cell-code s rows coarse subs c m k good below e =
     let b = begin_of d z.nsub k in
     let w = width_of d z.nsub k in
     let inside : b + w ≤ d = rw (← begin-next d z.nsub k) (begin-within d z.nsub (plain-bounds z good).range (suc k) below) in
-    let x = on_range d z.nsub k (value_in true (part rows (m * d) d) (part coarse (c * d) d)) in
+    let x = on_range d z.nsub k (value_in (Some (part coarse (c * d) d)) (part rows (m * d) d)) in
     let y = on_range d z.nsub k (less_center d coarse c (row_at rows d m)) in
     rw e (chosen-ext x y (part (cell_subs z subs c) (stretch_at z k) (stretch_long z k)) w (centers_of z.bits)
     (λ j h. rw (get_or-part rows (m * d) d (b + j) nan (omega arith), get_or-part coarse (c * d) d (b + j) nan (omega arith))))

@@ -1,5 +1,5 @@
 -- What the functions of filling ask of the slices that they are lent, and what they leave there.
-use Rattle.std.specs.Prelude.{ℕ, zero, suc, ◌+◌, ◌*◌, ◌≤◌, ◌<◌, ◌≡◌, List, true, false, length, get_or, Float}
+use Rattle.std.specs.Prelude.{ℕ, zero, suc, ◌+◌, ◌*◌, ◌≤◌, ◌<◌, ◌≡◌, List, Some, IfSome, option_copied, false, length, get_or, Float}
 use Rattle.lists.specs.Lists.{part, put_part, tab, fill}
 use Rattle.pq_params.specs.declared.Shape.{Shape}
 use Rattle.pq_params.specs.declared.CelledShape.{CelledShape}
@@ -13,9 +13,9 @@ use Rattle.celled_fill.specs.Fill.{cell_at, cell_subs}
 
 -- ---- the cells
 
--- the frame of the coarse centres: all rows, all coordinates, no residual
+-- the frame of the coarse centres: all rows, all coordinates
 abbrev pub coarse_frame : CelledShape → ℕ → Frame
-coarse_frame s n = record { d = s.plain.d; begin = 0; w = s.plain.d; listed = false; has = false; n = n; centers = s.cells }
+coarse_frame s n = record { d = s.plain.d; begin = 0; w = s.plain.d; n = n; centers = s.cells }
 
 -- the numbers are within their bounds, and rows and coarse centres are as long as they say
 pub record Rows (s : CelledShape) (n : ℕ) (rows coarse : List Float) : Type 0 where
@@ -52,13 +52,13 @@ coded_to code nsub list (suc k) codes =
     let m = get_or list k 0 in
     put_part (coded_to code nsub list k codes) (m * nsub) nsub (tab (code m) nsub)
 
--- a list of rows to be coded: the index's numbers, and that a residual is taken off
-abbrev pub coded_by : Shape → RowList
-coded_by z = record { shape = z; epochs = 0; cell = 0; listed = false; has = true; n = 0 }
-
 -- the code of row m less `center`, against the sub-centres of one cell
 abbrev pub row_code : Shape → List Float → List Float → List Float → ℕ → ℕ → ℕ
-row_code z rows center subs m = code_by (coded_by z) (row_in (coded_by z) rows m) center subs
+row_code z rows center subs m = code_by z (row_in z rows m) (Some center) subs
+
+-- the code of row m less the centre of its list, if any
+abbrev pub code_listed : RowList → List Float → ℕ → ℕ → ℕ
+code_listed l subs m = code_by l.shape (row_in l.shape l.rows.now m) (option_copied l.center) subs
 
 -- the codes of the rows of cell c
 abbrev pub cell_code : CelledShape → List Float → List Float → List Float → ℕ → ℕ → ℕ → ℕ
@@ -70,12 +70,12 @@ coded_cell s n c rows coarse subs codes =
     coded_to (cell_code s rows coarse subs c) s.plain.nsub list (length list) codes
 
 -- each listed row is one of the rows and has a place among the codes
-pub record Listed (z : Shape) (rows : List Float) (list : List ℕ) (center subs : List Float) (codes : List ℕ) : Type 0 where
-  pub good : bad_plain z ≡ false
-  pub row-held : (k : ℕ) → k < length list → get_or list k 0 * z.d + z.d ≤ length rows
-  pub code-held : (k : ℕ) → k < length list → get_or list k 0 * z.nsub + z.nsub ≤ length codes
-  pub center-long : length center ≡ z.d
-  pub subs-long : length subs ≡ subs_long z
+pub record Listed (l : RowList) (list : List ℕ) (subs : List Float) (codes : List ℕ) : Type 0 where
+  pub good : bad_plain l.shape ≡ false
+  pub row-held : (k : ℕ) → k < length list → get_or list k 0 * l.shape.d + l.shape.d ≤ length l.rows.now
+  pub code-held : (k : ℕ) → k < length list → get_or list k 0 * l.shape.nsub + l.shape.nsub ≤ length codes
+  pub center-long : IfSome (option_copied l.center) (λ c. l.shape.d ≤ length c)
+  pub subs-long : length subs ≡ subs_long l.shape
 
 -- the lists are those of the rows' cells, and sub-centres and codes are of their lengths
 pub record Coding (s : CelledShape) (rows coarse : List Float) (starts members : List ℕ) (subs : List Float) (codes : List ℕ)

@@ -1,4 +1,5 @@
 pub mod Lengths
+pub mod Walked
 pub mod Starts
 pub mod CellLists
 pub mod Filled

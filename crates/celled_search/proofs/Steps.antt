@@ -1,12 +1,14 @@
 -- The steps of a celled search: what each leaves to the next, and that each of their refusals is the definition's.
 use Prim.Native.Nat.{ℕ}
-use mathlib.Core.Path.{◌≡◌, refl, ◌∙◌, ap}
+use mathlib.Core.Path.{◌≡◌, refl, sym, ◌∙◌, ap}
 use mathlib.Core.Bool.{Bool, true, false}
 use mathlib.Core.List.{List, []}
 use native.Mathlib.Omega.{arith}
 use lib.ListN.{length}
 use lib.Ieee.{Float}
-use Rattle.answers.specs.declared.Searched.TheVariants.{Refused}
+use Rattle.std.specs.Prelude.{Ok, Err}
+use Rattle.answers.specs.declared.Refusal.{Refusal}
+use Rattle.answers.specs.declared.Refusal.TheVariants.{Damaged, DistanceNotFinite}
 use Rattle.lists.specs.Lists.{fill}
 use Rattle.lists.specs.Tests.{every}
 use Rattle.lists.proofs.Tables.{length-tab}
@@ -19,7 +21,8 @@ use Rattle.cell_walk.specs.Results.{Lent, lent, SearchOut, search_out, asked_of,
 use Rattle.cell_walk.specs.WalkInner.{Blank}
 use Rattle.cell_walk.proofs.Cells.{length-rows}
 use Rattle.probed_cells.specs.Search.{Asked, starts_good, coarse_distance, coarse_finite, probed, probed_sound}
-use Rattle.probed_cells.specs.ProbedInner.{CellsIn, sound_at, Cleared, probed_outcome}
+use Rattle.probed_cells.specs.ProbedInner.{Listed, CellsIn, sound_at, Probing, Cleared, probed_outcome}
+use Rattle.probed_cells.proofs.ProbedCells.{listed_of}
 use Rattle.celled_search.specs.Outcome.{search_worked}
 use Rattle.celled_search.specs.SearchInner.{Stepping}
 
@@ -33,10 +36,10 @@ cleared rows sums table k n b z =
     record { rows-blank = rw l b.rows-blank; sums-blank = rw l b.sums-blank; table-zero = rw m z }
 
 -- what is cleared is what a refusal leaves
-pub cleared-out : (l : Lent) (number : ℕ) → Cleared l → search_out (Refused number) l.rows l.sums l.table ≡ blank l number
-cleared-out l number c = λ t. record {
-  answer = Refused number;
-  said = said_refused number;
+pub cleared-out : (l : Lent) (why : Refusal) → Cleared l → search_out (Err why) l.rows l.sums l.table ≡ blank l why
+cleared-out l why c = λ t. record {
+  answer = Err why;
+  said = said_refused why;
   rows = c.rows-blank t;
   sums = c.sums-blank t;
   table = c.table-zero t;
@@ -52,32 +55,20 @@ module _ (a : Asked) (l : Lent) where
 
   -- starts that are not sound, once the results are blank and the table is zero
   pub worked-starts : (rows : List ℕ) (sums table : List Float) → Blank (asked_of l) rows sums → table ≡ fill zero32 (length l.table) → starts_good a ≡ false
-      → search_out (Refused 10) rows sums table ≡ search_worked a l
+      → search_out (Err Damaged) rows sums table ≡ search_worked a l
   unfolding search_worked
   worked-starts rows sums table b z s = rw (s, b.rows-blank, b.sums-blank, z)
 
-  pub worked-coarse : starts_good a ≡ true → coarse_finite a ≡ false → search_worked a l ≡ blank l 11
-  unfolding search_worked
-  worked-coarse s c = rw (s, c)
-
-  pub worked-damaged : starts_good a ≡ true → coarse_finite a ≡ true → probed_sound a ≡ false → search_worked a l ≡ blank l 10
-  unfolding search_worked
-  worked-damaged s c p = rw (s, c, p)
-
-  pub worked-probed : starts_good a ≡ true → coarse_finite a ≡ true → probed_sound a ≡ true → search_worked a l ≡ probed_outcome a l
-  unfolding search_worked
-  worked-probed s c p = rw (s, c, p)
-
 -- ---- step 2
 
--- what the number of the probing says
-finite-of : (b : Bool) (r : ℕ) → r ≡ probe_answer b → r ≡ 0 → b ≡ true
-finite-of true r e z = refl
-finite-of false r e z = absurd (omega arith)
+-- what the answer of the probing says
+finite-of : (b : Bool) → Ok tt ≡ probe_answer b → b ≡ true
+finite-of true e = refl
+finite-of false e = cc
 
-not-finite-of : (b : Bool) (r : ℕ) → r ≡ probe_answer b → (r ≡ 0 → ⊥) → (b ≡ false) × (r ≡ 11)
-not-finite-of true r e z = absurd (z e)
-not-finite-of false r e z = (refl, e)
+not-finite-of : (b : Bool) (why : Refusal) → Err why ≡ probe_answer b → (b ≡ false) × (why ≡ DistanceNotFinite)
+not-finite-of true why e = let z : ⊥ = cc in absurd z
+not-finite-of false why e = (refl, cc)
 
 module _ (a : Asked) (places : List ℕ) (table : List Float) (w : Stepping a places table) where
   -- the cells may be ranked
@@ -91,24 +82,41 @@ module _ (a : Asked) (places : List ℕ) (table : List Float) (w : Stepping a pl
         places-most = rw w.places-long b.probes-fit;
       }
 
-  module _ (places' : List ℕ) (r : ℕ) (P : Probed (coarse_distance a) a.index.shape.cells places places' r) where
-    pub probe-not : (r ≡ 0 → ⊥) → (coarse_finite a ≡ false) × (r ≡ 11)
-    probe-not z = not-finite-of (coarse_finite a) r P.answer z
+  -- a refusal of the probing is the definition's
+  pub worked-refused : (l : Lent) (places' : List ℕ) (why : Refusal) → Cleared l → Probed (coarse_distance a) a.index.shape.cells places places' (Err why)
+      → search_out (Err why) l.rows l.sums l.table ≡ search_worked a l
+  unfolding search_worked
+  worked-refused l places' why c P =
+      let n = not-finite-of (coarse_finite a) why P.answer in
+      cleared-out l why c ∙ rw (n.1, w.starts-good, n.0)
 
-    pub probe-finite : r ≡ 0 → coarse_finite a ≡ true
-    probe-finite z = finite-of (coarse_finite a) r P.answer z
+  -- ---- step 3
 
-    pub probe-is : r ≡ 0 → places' ≡ probed a
-    probe-is z = P.cells_are ∙ rw (probe-finite z) (ap (nearest_cells (coarse_distance a) a.index.shape.cells) w.places-long)
+  module _ (probed' : List ℕ) (P : Probed (coarse_distance a) a.index.shape.cells places probed' (Ok tt)) where
+    probed-is : probed' ≡ probed a
+    probed-is = P.cells_are ∙ rw (finite-of (coarse_finite a) P.answer) (ap (nearest_cells (coarse_distance a) a.index.shape.cells) w.places-long)
 
--- ---- step 3
+    -- the probed cells may be tested
+    pub probed-listed : Listed a × CellsIn a.index.shape.cells probed'
+    probed-listed = (
+      listed_of a w.ready w.starts-good,
+      λ p h. rw probed-is (nearest-below (coarse_distance a) a.index.shape.cells a.index.shape.probes p (rw probed-is at h)),
+    )
 
-module _ (a : Asked) (list : List ℕ) (e : list ≡ probed a) where
-  -- the probed cells are cells of the index
-  pub cells_in : CellsIn a.index.shape.cells list
-  cells_in p h = rw e (nearest-below (coarse_distance a) a.index.shape.cells a.index.shape.probes p (rw e at h))
+    sound-is : every (sound_at a probed') (length probed') ≡ probed_sound a
+    unfolding probed_sound
+    sound-is = rw probed-is
 
-  -- the test of all of them
-  pub sound-is : every (sound_at a.index.shape.plain a.index.n a.mask a.index.starts a.index.members a.index.codes list) (length list) ≡ probed_sound a
-  unfolding probed_sound
-  sound-is = rw e
+    -- damage in one of them
+    pub worked-damaged : (l : Lent) → Cleared l → every (sound_at a probed') (length probed') ≡ false → search_out (Err Damaged) l.rows l.sums l.table ≡ search_worked a l
+    unfolding search_worked
+    worked-damaged l c d = cleared-out l Damaged c ∙ rw (w.starts-good, finite-of (coarse_finite a) P.answer, sym sound-is ∙ d)
+
+    -- steps 4 and 5, where there is none
+    module _ (t : every (sound_at a probed') (length probed') ≡ true) where
+      pub probing : Probing a probed' table
+      probing = record { ready = w.ready; starts-good = w.starts-good; list-is = probed-is; sound = sym sound-is ∙ t; table-long = w.table-long }
+
+      pub worked-probed : (l : Lent) (o : SearchOut) → o ≡ probed_outcome a l → o ≡ search_worked a l
+      unfolding search_worked
+      worked-probed l o e = e ∙ rw (w.starts-good, finite-of (coarse_finite a) P.answer, sym sound-is ∙ t)

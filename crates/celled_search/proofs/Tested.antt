@@ -1,10 +1,9 @@
--- The tests of a celled search: what follows from the number that they answer.
-use Prim.Native.Nat.{ℕ}
-use mathlib.Core.Path.{◌≡◌, sym, ◌∙◌, ap}
+-- The tests of a celled search: what follows from their answer.
+use mathlib.Core.Path.{◌≡◌, ◌∙◌, ap}
 use mathlib.Core.Bool.{Bool}
-use borrow.Author.Tests.{ne_eqb}
 use lib.ListN.{length}
-use Rattle.answers.specs.declared.Searched.TheVariants.{Refused}
+use Rattle.std.specs.Prelude.{Ok, Err}
+use Rattle.answers.specs.declared.Refusal.{Refusal}
 use Rattle.lists.specs.Tests.{any_of}
 use Rattle.lists.proofs.Tests.{none}
 use Rattle.pq_params.specs.declared.CelledLengths.{CelledLengths}
@@ -30,32 +29,26 @@ module _ (i : SearchIn) where
   abbrev wrong : CelledLengths → Bool
   wrong l = any_of (search_lengths l i)
 
-  -- the number that the code works out from the lengths that it is told
-  abbrev pub number_in : ℕ
-  number_in = search_tests (bad_celled x.shape) x.n (wrong (celled_lengths x.shape x.n)) (asked_of i.lent) i.asked.query
-
-  refusal_is : number_in ≡ search_refusal i
+  -- by the lengths that the code is told the tests answer the same
+  pub refusal_is : search_tests (bad_celled x.shape) x.n (wrong (celled_lengths x.shape x.n)) (asked_of i.lent) i.asked.query ≡ search_refusal i
   unfolding search_refusal
   refusal_is =
       search-agree (bad_celled x.shape) x.n (wrong (celled_lengths x.shape x.n)) (wrong (celled_of x.shape x.n)) (asked_of i.lent) i.asked.query
       (λ g few. ap wrong (celled-long x.shape x.n g few))
 
-  module _ (number : ℕ) (e : number ≡ number_in) where
-    pub out-refused : (number ≡ 0 → ⊥) → search_out (Refused number) i.lent.rows i.lent.sums i.lent.table ≡ search_outcome i
+  pub out-refused : (why : Refusal) → search_refusal i ≡ Err why → search_out (Err why) i.lent.rows i.lent.sums i.lent.table ≡ search_outcome i
+  unfolding search_outcome
+  out-refused why h = rw h
+
+  module _ (z : search_refusal i ≡ Ok tt) where
+    pub out-worked : (o : SearchOut) → o ≡ search_worked i.asked i.lent → o ≡ search_outcome i
     unfolding search_outcome
-    out-refused h = rw (sym (e ∙ refusal_is), ne_eqb number 0 h)
+    out-worked o w = w ∙ rw z
 
-    zero_is : number ≡ 0 → search_refusal i ≡ 0
-    zero_is z = sym (e ∙ refusal_is) ∙ z
-
-    pub out-worked : (o : SearchOut) → number ≡ 0 → o ≡ search_worked i.asked i.lent → o ≡ search_outcome i
-    unfolding search_outcome
-    out-worked o z w = w ∙ rw (zero_is z)
-
-    pub passed : number ≡ 0 → Passed i
+    pub passed : Passed i
     unfolding search_refusal
-    passed z =
-        let p = search-passed (bad_celled x.shape) x.n (wrong (celled_of x.shape x.n)) (asked_of i.lent) i.asked.query (zero_is z) in
+    passed =
+        let p = search-passed (bad_celled x.shape) x.n (wrong (celled_of x.shape x.n)) (asked_of i.lent) i.asked.query z in
         let l = none (search_lengths (celled_of x.shape x.n) i) p.right in
         record {
           ready = record {

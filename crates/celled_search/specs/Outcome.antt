@@ -1,5 +1,7 @@
 -- The search of a celled index as a whole: for any input, the answer and every lent buffer afterwards.
-use Rattle.std.specs.Prelude.{ℕ, List, [], ◌∷◌, ◌++◌, Bool, cond, not, eqb, Float}
+use Rattle.std.specs.Prelude.{ℕ, List, [], ◌∷◌, ◌++◌, Bool, cond, not, Float}
+use Rattle.answers.specs.declared.Refusal.TheVariants.{Damaged, DistanceNotFinite}
+use Rattle.answers.specs.Answers.{Checked, unless}
 use Rattle.lists.specs.Tests.{any_of}
 use Rattle.pq_params.specs.declared.CelledShape.{CelledShape}
 use Rattle.pq_params.specs.declared.CelledLengths.{CelledLengths}
@@ -30,7 +32,7 @@ search_lengths l i =
     ∷ [])
 
 -- tests 1, 3, 4, 5, 6
-unfoldable pub search_refusal : SearchIn → ℕ
+unfoldable pub search_refusal : SearchIn → Checked
 search_refusal i =
     let x = i.asked.index in
     search_tests (bad_celled x.shape) x.n (any_of (search_lengths (celled_of x.shape x.n) i)) (asked_of i.lent) i.asked.query
@@ -38,10 +40,10 @@ search_refusal i =
 -- The steps go in this order: 1, 2, 3, then 4 and 5.
 unfoldable pub search_worked : Asked → Lent → SearchOut
 search_worked a l =
-    cond (not (starts_good a)) (blank l 10)
-    (cond (not (coarse_finite a)) (blank l 11)
-    (cond (not (probed_sound a)) (blank l 10)
-    (cond (not (probed_finite a)) (blank l 11) (answered l (all_candidates a)))))
+    cond (not (starts_good a)) (blank l Damaged)
+    (cond (not (coarse_finite a)) (blank l DistanceNotFinite)
+    (cond (not (probed_sound a)) (blank l Damaged)
+    (cond (not (probed_finite a)) (blank l DistanceNotFinite) (answered l (all_candidates a)))))
 
 unfoldable pub search_outcome : SearchIn → SearchOut
-search_outcome i = cond (eqb (search_refusal i) 0) (search_worked i.asked i.lent) (unchanged i.lent (search_refusal i))
+search_outcome i = unless (search_refusal i) (search_worked i.asked i.lent) (unchanged i.lent)

@@ -1,12 +1,12 @@
 -- Celled training: for any input, the answer and every lent buffer afterwards.
-use Rattle.std.specs.Prelude.{ℕ, List, [], ◌∷◌, ◌++◌, Bool, cond, ◌||◌, length, eqb, Float}
+use Rattle.std.specs.Prelude.{ℕ, List, [], ◌∷◌, ◌++◌, Ok, Err, Bool, ◌||◌, length, Float}
 use Rattle.lists.specs.Lists.{fill, join, grid}
 use Rattle.lists.specs.Tests.{any_of}
 use Rattle.metrics.specs.Distance.{zero32}
-use Rattle.answers.specs.declared.Trained.{Trained}
-use Rattle.answers.specs.declared.Trained.TheVariants.{Done, Refused}
+use Rattle.answers.specs.declared.Refusal.{Refusal}
+use Rattle.answers.specs.declared.Untrained.TheVariants.{Refused}
 use Rattle.answers.specs.declared.TrainAnswer.{TrainAnswer}
-use Rattle.answers.specs.Answers.{no_place, train_said, ended}
+use Rattle.answers.specs.Answers.{Trained, Checked, unless, number_of, no_place, train_said, ended}
 use Rattle.pq_params.specs.declared.CelledLengths.{CelledLengths}
 use Rattle.pq_params.specs.Bounds.{bad_celled, bad_epochs, too_many_draws}
 use Rattle.pq_params.specs.Lengths.{celled_of}
@@ -46,7 +46,7 @@ train_lengths l i =
     length_tests l (lengths_of i.index)
     ++ (not_long i.rows l.rows ∷ not_long i.work l.work ∷ too_many_draws (length i.draws) ∷ [])
 
-unfoldable pub train_refusal : TrainIn → ℕ
+unfoldable pub train_refusal : TrainIn → Checked
 train_refusal i =
     let s = i.index.shape in
     let n = i.index.n in
@@ -58,10 +58,10 @@ abbrev pub given_of : TrainIn → Given
 given_of i = record { shape = i.index.shape; epochs = i.epochs; n = i.index.n; rows = i.rows; draws = i.draws }
 
 -- refusals 1 to 7: nothing changed
-abbrev pub train_unchanged : TrainIn → ℕ → TrainOut
-train_unchanged i number = record {
-  answer = Refused number;
-  said = record { number = number; place = no_place; used = 0 };
+abbrev pub train_unchanged : TrainIn → Refusal → TrainOut
+train_unchanged i r = record {
+  answer = Err (Refused r);
+  said = record { number = number_of r; place = no_place; used = 0 };
   index = i.index;
   work = i.work;
 }
@@ -95,7 +95,7 @@ trained_index g = record {
 
 abbrev pub train_done : TrainIn → ℕ → TrainOut
 train_done i used = record {
-  answer = Done used;
+  answer = Ok used;
   said = record { number = 0; place = no_place; used = used };
   index = trained_index (given_of i);
   work = fill 0 (length i.work);
@@ -106,4 +106,4 @@ abbrev pub train_ended : TrainIn → TrainOut
 train_ended i = ended (reached_cell (given_of i) i.index.shape.cells) (train_done i) (train_zero i)
 
 unfoldable pub train_outcome : TrainIn → TrainOut
-train_outcome i = cond (eqb (train_refusal i) 0) (train_ended i) (train_unchanged i (train_refusal i))
+train_outcome i = unless (train_refusal i) (train_ended i) (train_unchanged i)

@@ -2,7 +2,7 @@
 // as document 01 says.
 #![tactic(auto)]
 
-mod odd;
+mod given;
 mod searches;
 mod trainings;
 
@@ -12,7 +12,7 @@ use std::io;
 
 // The trainings, then the searches.
 fn main(rt: HostRuntime) -> io::Result<()> {
-    let t = trainings::agreeing(Tally { agree: 0, of: 0 });
+    let t = trainings::agreeing(Tally::default());
     tally::say_tally(&mut io::writer(&rt), b"examples ", searches::agreeing(t))?;
     Ok(())
 }

@@ -1,15 +1,15 @@
-// Examples of the plain search, in tables by their number: what document 01 says of each, beside its neighbour.
-use crate::odd;
-use answers::SearchAnswer;
-use lending::tally::Tally;
-use lending::{buffers, held, listed, parts};
+// Examples of the plain search, in a table: what document 01 says of each, beside its neighbour.
+use crate::given;
+use answers::{Found, Refusal};
+use lending::buffers::{DIRTY_FLOAT, DIRTY_NUMBER, ROWS, WORK, filled};
+use lending::held::held;
+use lending::listed::{are, same, write};
+use lending::parts::first;
+use lending::tally::{Tally, counted};
 use pq_params::Shape;
 
 // The row number of a blank place.
 const BLANK: u32 = 4_294_967_295;
-
-// No row has this number.
-const NOBODY: usize = 4_294_967_295;
 
 // Powers of 2, of which 2^64 has no finite square, and 2^127 + 2^126.
 const TO_63: f32 = 9223372036854775808.0;
@@ -20,282 +20,713 @@ const TO_126: f32 = 85070591730234615865843651857942052864.0;
 
 const SUM: f32 = 255211775190703847597530955573826158592.0;
 
-// The number of examples.
-const EXAMPLES: usize = 35;
-
-// Asked: D, n_sub, sub_bits, n. Lent: so many coordinates of the query, bytes of the mask, sub-centres, codes, row numbers, sums and
-// entries of the table.
-fn given(i: usize) -> [usize; 11] {
-    match i {
-        // sums 4, 1, 4, 0.5 for rows 0..3: k 3; row 3 hidden; k 5; k 0
-        0 => [2, 1, 2, 4, 2, 4, 8, 4, 3, 3, 4],
-        1 => [2, 1, 2, 4, 2, 4, 8, 4, 3, 3, 4],
-        2 => [2, 1, 2, 4, 2, 4, 8, 4, 5, 5, 4],
-        3 => [2, 1, 2, 4, 2, 4, 8, 4, 0, 0, 4],
-        // k 4,096 and 4,097
-        4 => [2, 1, 2, 4, 2, 4, 8, 4, 4_096, 4_096, 4],
-        5 => [2, 1, 2, 4, 2, 4, 8, 4, 4_097, 4_097, 4],
-        // 100,001 rows pass test 3, 100,002 do not; row 100,000 alone has the second centre
-        6 => [1, 1, 1, 100_001, 1, 100_001, 2, 100_001, 2, 2, 2],
-        7 => [1, 1, 1, 100_002, 1, 100_002, 2, 100_002, 2, 2, 2],
-        // n 0 is legal
-        8 => [1, 1, 0, 0, 1, 0, 1, 0, 3, 3, 1],
-        // D 256 and 257, and 0
-        9 => [256, 1, 0, 1, 256, 1, 256, 1, 1, 1, 1],
-        10 => [257, 1, 0, 1, 257, 1, 257, 1, 1, 1, 1],
-        11 => [0, 1, 0, 1, 0, 1, 0, 1, 1, 1, 1],
-        // n_sub 64 and 65, and above D
-        12 => [64, 64, 0, 1, 64, 1, 64, 64, 1, 1, 64],
-        13 => [65, 65, 0, 1, 65, 1, 65, 65, 1, 1, 65],
-        14 => [1, 2, 0, 1, 1, 1, 1, 2, 1, 1, 2],
-        // sub_bits 8, whose last code is 255, and 9
-        15 => [1, 1, 8, 1, 1, 1, 256, 1, 1, 1, 256],
-        16 => [1, 1, 9, 1, 1, 1, 512, 1, 1, 1, 512],
-        // a buffer not of its length: query, mask, sub-centres, codes, row numbers, sums, table
-        17 => [2, 1, 2, 4, 1, 4, 8, 4, 3, 3, 4],
-        18 => [2, 1, 2, 4, 2, 3, 8, 4, 3, 3, 4],
-        19 => [2, 1, 2, 4, 2, 4, 7, 4, 3, 3, 4],
-        20 => [2, 1, 2, 4, 2, 4, 8, 5, 3, 3, 4],
-        21 => [2, 1, 2, 4, 2, 4, 8, 4, 2, 3, 4],
-        22 => [2, 1, 2, 4, 2, 4, 8, 4, 3, 2, 4],
-        23 => [2, 1, 2, 4, 2, 4, 8, 4, 3, 3, 5],
-        // a query that is no number, or infinite; -0.0; test 5 before test 6
-        24 => [2, 1, 2, 4, 2, 4, 8, 4, 3, 3, 4],
-        25 => [2, 1, 2, 4, 2, 4, 8, 4, 3, 3, 4],
-        26 => [2, 1, 2, 4, 2, 4, 8, 4, 3, 3, 4],
-        27 => [2, 1, 2, 4, 2, 4, 8, 4, 4_097, 4_097, 4],
-        // a damaged code of a visible row, and of a hidden one
-        28 => [2, 1, 2, 4, 2, 4, 8, 4, 3, 3, 4],
-        29 => [2, 1, 2, 4, 2, 4, 8, 4, 3, 3, 4],
-        // a table entry that overflows, though no row has it; the same without a visible row; the square of 2^63
-        30 => [1, 1, 1, 1, 1, 1, 2, 1, 1, 1, 2],
-        31 => [1, 1, 1, 1, 1, 1, 2, 1, 1, 1, 2],
-        32 => [1, 1, 1, 1, 1, 1, 2, 1, 1, 1, 2],
-        // a sum of finite entries that overflows, and one that does not
-        33 => [4, 2, 0, 1, 4, 1, 4, 2, 1, 1, 2],
-        _ => [4, 2, 0, 1, 4, 1, 4, 2, 1, 1, 2],
-    }
+// What is lent: so many coordinates of the query, bytes of the mask, sub-centres, codes, row numbers, sums and entries of the table.
+#[derive(Clone, Copy, Debug, PartialEq, Eq)]
+struct Lent {
+    query: usize,
+    mask: usize,
+    subs: usize,
+    codes: usize,
+    rows: usize,
+    sums: usize,
+    table: usize,
 }
 
-// The row that is hidden.
-fn hidden(i: usize) -> usize {
-    match i {
-        1 | 29 => 3,
-        31 => 0,
-        _ => NOBODY,
-    }
+// What comes out.
+#[derive(Clone, Copy, Debug, PartialEq)]
+enum Expected {
+    // Refused by test 1 to 6: results and table are as they were.
+    Refused(Refusal),
+    // 10 or 11: the results are blank, and the table is zero.
+    Blank(Refusal),
+    // The row numbers, which blanks follow, and the sums, the rest being 0; and the table is zero.
+    Found {
+        found: usize,
+        scored: usize,
+        rows: &'static [u32],
+        sums: &'static [f32],
+    },
 }
 
-// The first four codes, and the last one if there are more, the rest being 0.
-fn codes(i: usize) -> [u8; 5] {
-    match i {
-        6 | 7 => [0, 0, 0, 0, 1],
-        8 | 9 | 10 | 11 | 12 | 13 | 14 | 30 | 31 | 33 | 34 => [0, 0, 0, 0, 0],
-        15 | 16 => [255, 0, 0, 0, 0],
-        28 | 29 => [0, 1, 2, 4, 0],
-        32 => [1, 0, 0, 0, 0],
-        _ => [0, 1, 2, 3, 0],
-    }
+// An example: what is asked and lent, the row that is hidden, the first codes, and the last one if there are more than four, and the first
+// coordinates of the query and of the sub-centres, the rest being 0.
+#[derive(Clone, Copy, Debug, PartialEq)]
+struct Example {
+    shape: Shape,
+    n: usize,
+    lent: Lent,
+    hidden: Option<usize>,
+    codes: &'static [u8],
+    last_code: u8,
+    query: &'static [f32],
+    subs: &'static [f32],
+    expected: Expected,
 }
 
-// Expected: the answer's number, found, scored, and five row numbers, which blanks follow.
-fn expected(i: usize) -> [u32; 8] {
-    match i {
-        0 | 26 => [0, 3, 4, 3, 1, 0, BLANK, BLANK],
-        1 | 29 => [0, 3, 3, 1, 0, 2, BLANK, BLANK],
-        2 | 4 => [0, 4, 4, 3, 1, 0, 2, BLANK],
-        3 => [0, 0, 4, BLANK, BLANK, BLANK, BLANK, BLANK],
-        6 => [0, 2, 100_001, 100_000, 0, BLANK, BLANK, BLANK],
-        8 | 31 => [0, 0, 0, BLANK, BLANK, BLANK, BLANK, BLANK],
-        9 | 12 | 15 | 32 | 34 => [0, 1, 1, 0, BLANK, BLANK, BLANK, BLANK],
-        10 | 11 | 13 | 14 | 16 => [1, 0, 0, 0, 0, 0, 0, 0],
-        7 => [3, 0, 0, 0, 0, 0, 0, 0],
-        5 | 27 => [5, 0, 0, 0, 0, 0, 0, 0],
-        24 | 25 => [6, 0, 0, 0, 0, 0, 0, 0],
-        28 => [10, 0, 0, BLANK, BLANK, BLANK, BLANK, BLANK],
-        30 | 33 => [11, 0, 0, BLANK, BLANK, BLANK, BLANK, BLANK],
-        // 17, 18, 19, 20, 21, 22, 23
-        _ => [4, 0, 0, 0, 0, 0, 0, 0],
-    }
-}
+// What an example lends, but for what it says otherwise.
+const USUAL_LENT: Lent = Lent {
+    query: 2,
+    mask: 4,
+    subs: 8,
+    codes: 4,
+    rows: 3,
+    sums: 3,
+    table: 4,
+};
 
-// The query's first two coordinates and the first eight sub-centres, the rest being 0. Without a line of its own an example has four
-// sub-centres whose squared distances from (0,0) are 4, 1, 4, 0.5.
-fn values(i: usize) -> [f32; 10] {
-    match i {
-        6 => [2.0, 0.0, 0.0, 2.0, 0.0, 0.0, 0.0, 0.0, 0.0, 0.0],
-        7 | 8 | 10 | 11 | 13 | 14 | 16 => [0.0, 0.0, 0.0, 0.0, 0.0, 0.0, 0.0, 0.0, 0.0, 0.0],
-        9 | 12 | 15 => [0.0, 0.0, 3.0, 4.0, 0.0, 0.0, 0.0, 0.0, 0.0, 0.0],
-        24 | 27 => [0.0, odd::nan(), 2.0, 0.0, 1.0, 0.0, 0.0, 2.0, 0.5, 0.5],
-        25 => [odd::infinite(), 0.0, 2.0, 0.0, 1.0, 0.0, 0.0, 2.0, 0.5, 0.5],
-        26 => [-0.0, -0.0, 2.0, 0.0, 1.0, 0.0, 0.0, 2.0, 0.5, 0.5],
-        30 | 31 => [0.0, 0.0, 0.0, TO_64, 0.0, 0.0, 0.0, 0.0, 0.0, 0.0],
-        32 => [0.0, 0.0, 0.0, TO_63, 0.0, 0.0, 0.0, 0.0, 0.0, 0.0],
-        33 => [0.0, 0.0, TO_63, TO_63, TO_63, TO_63, 0.0, 0.0, 0.0, 0.0],
-        34 => [0.0, 0.0, TO_63, TO_63, TO_63, 0.0, 0.0, 0.0, 0.0, 0.0],
-        _ => [0.0, 0.0, 2.0, 0.0, 1.0, 0.0, 0.0, 2.0, 0.5, 0.5],
-    }
-}
+// An example, but for what it says otherwise: four rows, and four sub-centres whose squared distances from (0,0) are 4, 1, 4, 0.5.
+const USUAL: Example = Example {
+    shape: Shape {
+        d: 2,
+        nsub: 1,
+        bits: 2,
+    },
+    n: 4,
+    lent: USUAL_LENT,
+    hidden: None,
+    codes: &[0, 1, 2, 3],
+    last_code: 0,
+    query: &[0.0, 0.0],
+    subs: &[2.0, 0.0, 1.0, 0.0, 0.0, 2.0, 0.5, 0.5],
+    expected: Expected::Found {
+        found: 3,
+        scored: 4,
+        rows: &[3, 1, 0],
+        sums: &[0.5, 1.0, 4.0],
+    },
+};
 
-// Expected: five sums, the rest being 0.
-fn sums(i: usize) -> [f32; 5] {
-    match i {
-        0 | 26 => [0.5, 1.0, 4.0, 0.0, 0.0],
-        1 | 29 => [1.0, 4.0, 4.0, 0.0, 0.0],
-        2 | 4 => [0.5, 1.0, 4.0, 4.0, 0.0],
-        6 => [0.0, 4.0, 0.0, 0.0, 0.0],
-        9 | 12 => [25.0, 0.0, 0.0, 0.0, 0.0],
-        32 => [TO_126, 0.0, 0.0, 0.0, 0.0],
-        34 => [SUM, 0.0, 0.0, 0.0, 0.0],
-        _ => [0.0; 5],
-    }
-}
-
-// The index's numbers.
-fn shape(g: [usize; 11]) -> Shape {
-    Shape {
-        d: g[0],
-        nsub: g[1],
-        bits: g[2],
-    }
-}
-
-// Whether an answer is the one expected.
-fn is_answer(a: SearchAnswer, x: [u32; 8]) -> bool {
-    (a.number == x[0]) & (a.found == lists::wide(x[1])) & (a.scored == lists::wide(x[2]))
-}
+// The examples, numbered from 0.
+static EXAMPLES: [Example; 35] = [
+    // sums 4, 1, 4, 0.5 for rows 0..3: k 3; row 3 hidden; k 5; k 0
+    USUAL,
+    Example {
+        hidden: Some(3),
+        expected: Expected::Found {
+            found: 3,
+            scored: 3,
+            rows: &[1, 0, 2],
+            sums: &[1.0, 4.0, 4.0],
+        },
+        ..USUAL
+    },
+    Example {
+        lent: Lent {
+            rows: 5,
+            sums: 5,
+            ..USUAL_LENT
+        },
+        expected: Expected::Found {
+            found: 4,
+            scored: 4,
+            rows: &[3, 1, 0, 2],
+            sums: &[0.5, 1.0, 4.0, 4.0],
+        },
+        ..USUAL
+    },
+    Example {
+        lent: Lent {
+            rows: 0,
+            sums: 0,
+            ..USUAL_LENT
+        },
+        expected: Expected::Found {
+            found: 0,
+            scored: 4,
+            rows: &[],
+            sums: &[],
+        },
+        ..USUAL
+    },
+    // k 4,096 and 4,097
+    Example {
+        lent: Lent {
+            rows: 4_096,
+            sums: 4_096,
+            ..USUAL_LENT
+        },
+        expected: Expected::Found {
+            found: 4,
+            scored: 4,
+            rows: &[3, 1, 0, 2],
+            sums: &[0.5, 1.0, 4.0, 4.0],
+        },
+        ..USUAL
+    },
+    Example {
+        lent: Lent {
+            rows: 4_097,
+            sums: 4_097,
+            ..USUAL_LENT
+        },
+        expected: Expected::Refused(Refusal::TooManyAsked),
+        ..USUAL
+    },
+    // 100,001 rows pass test 3, 100,002 do not; row 100,000 alone has the second centre
+    Example {
+        shape: Shape {
+            d: 1,
+            nsub: 1,
+            bits: 1,
+        },
+        n: 100_001,
+        lent: Lent {
+            query: 1,
+            mask: 100_001,
+            subs: 2,
+            codes: 100_001,
+            rows: 2,
+            sums: 2,
+            table: 2,
+        },
+        codes: &[],
+        last_code: 1,
+        query: &[2.0, 0.0],
+        subs: &[0.0, 2.0],
+        expected: Expected::Found {
+            found: 2,
+            scored: 100_001,
+            rows: &[100_000, 0],
+            sums: &[0.0, 4.0],
+        },
+        ..USUAL
+    },
+    Example {
+        shape: Shape {
+            d: 1,
+            nsub: 1,
+            bits: 1,
+        },
+        n: 100_002,
+        lent: Lent {
+            query: 1,
+            mask: 100_002,
+            subs: 2,
+            codes: 100_002,
+            rows: 2,
+            sums: 2,
+            table: 2,
+        },
+        codes: &[],
+        last_code: 1,
+        subs: &[],
+        expected: Expected::Refused(Refusal::TooManyRows),
+        ..USUAL
+    },
+    // n 0 is legal
+    Example {
+        shape: Shape {
+            d: 1,
+            nsub: 1,
+            bits: 0,
+        },
+        n: 0,
+        lent: Lent {
+            query: 1,
+            mask: 0,
+            subs: 1,
+            codes: 0,
+            table: 1,
+            ..USUAL_LENT
+        },
+        codes: &[],
+        subs: &[],
+        expected: Expected::Found {
+            found: 0,
+            scored: 0,
+            rows: &[],
+            sums: &[],
+        },
+        ..USUAL
+    },
+    // D 256 and 257, and 0
+    Example {
+        shape: Shape {
+            d: 256,
+            nsub: 1,
+            bits: 0,
+        },
+        n: 1,
+        lent: Lent {
+            query: 256,
+            mask: 1,
+            subs: 256,
+            codes: 1,
+            rows: 1,
+            sums: 1,
+            table: 1,
+        },
+        codes: &[],
+        subs: &[3.0, 4.0],
+        expected: Expected::Found {
+            found: 1,
+            scored: 1,
+            rows: &[0],
+            sums: &[25.0],
+        },
+        ..USUAL
+    },
+    Example {
+        shape: Shape {
+            d: 257,
+            nsub: 1,
+            bits: 0,
+        },
+        n: 1,
+        lent: Lent {
+            query: 257,
+            mask: 1,
+            subs: 257,
+            codes: 1,
+            rows: 1,
+            sums: 1,
+            table: 1,
+        },
+        codes: &[],
+        subs: &[],
+        expected: Expected::Refused(Refusal::NumbersOutOfBounds),
+        ..USUAL
+    },
+    Example {
+        shape: Shape {
+            d: 0,
+            nsub: 1,
+            bits: 0,
+        },
+        n: 1,
+        lent: Lent {
+            query: 0,
+            mask: 1,
+            subs: 0,
+            codes: 1,
+            rows: 1,
+            sums: 1,
+            table: 1,
+        },
+        codes: &[],
+        subs: &[],
+        expected: Expected::Refused(Refusal::NumbersOutOfBounds),
+        ..USUAL
+    },
+    // n_sub 64 and 65, and above D
+    Example {
+        shape: Shape {
+            d: 64,
+            nsub: 64,
+            bits: 0,
+        },
+        n: 1,
+        lent: Lent {
+            query: 64,
+            mask: 1,
+            subs: 64,
+            codes: 64,
+            rows: 1,
+            sums: 1,
+            table: 64,
+        },
+        codes: &[],
+        subs: &[3.0, 4.0],
+        expected: Expected::Found {
+            found: 1,
+            scored: 1,
+            rows: &[0],
+            sums: &[25.0],
+        },
+        ..USUAL
+    },
+    Example {
+        shape: Shape {
+            d: 65,
+            nsub: 65,
+            bits: 0,
+        },
+        n: 1,
+        lent: Lent {
+            query: 65,
+            mask: 1,
+            subs: 65,
+            codes: 65,
+            rows: 1,
+            sums: 1,
+            table: 65,
+        },
+        codes: &[],
+        subs: &[],
+        expected: Expected::Refused(Refusal::NumbersOutOfBounds),
+        ..USUAL
+    },
+    Example {
+        shape: Shape {
+            d: 1,
+            nsub: 2,
+            bits: 0,
+        },
+        n: 1,
+        lent: Lent {
+            query: 1,
+            mask: 1,
+            subs: 1,
+            codes: 2,
+            rows: 1,
+            sums: 1,
+            table: 2,
+        },
+        codes: &[],
+        subs: &[],
+        expected: Expected::Refused(Refusal::NumbersOutOfBounds),
+        ..USUAL
+    },
+    // sub_bits 8, whose last code is 255, and 9
+    Example {
+        shape: Shape {
+            d: 1,
+            nsub: 1,
+            bits: 8,
+        },
+        n: 1,
+        lent: Lent {
+            query: 1,
+            mask: 1,
+            subs: 256,
+            codes: 1,
+            rows: 1,
+            sums: 1,
+            table: 256,
+        },
+        codes: &[255],
+        subs: &[3.0, 4.0],
+        expected: Expected::Found {
+            found: 1,
+            scored: 1,
+            rows: &[0],
+            sums: &[0.0],
+        },
+        ..USUAL
+    },
+    Example {
+        shape: Shape {
+            d: 1,
+            nsub: 1,
+            bits: 9,
+        },
+        n: 1,
+        lent: Lent {
+            query: 1,
+            mask: 1,
+            subs: 512,
+            codes: 1,
+            rows: 1,
+            sums: 1,
+            table: 512,
+        },
+        codes: &[255],
+        subs: &[],
+        expected: Expected::Refused(Refusal::NumbersOutOfBounds),
+        ..USUAL
+    },
+    // a buffer not of its length: query, mask, sub-centres, codes, row numbers, sums, table
+    Example {
+        lent: Lent {
+            query: 1,
+            ..USUAL_LENT
+        },
+        expected: Expected::Refused(Refusal::WrongLength),
+        ..USUAL
+    },
+    Example {
+        lent: Lent {
+            mask: 3,
+            ..USUAL_LENT
+        },
+        expected: Expected::Refused(Refusal::WrongLength),
+        ..USUAL
+    },
+    Example {
+        lent: Lent {
+            subs: 7,
+            ..USUAL_LENT
+        },
+        expected: Expected::Refused(Refusal::WrongLength),
+        ..USUAL
+    },
+    Example {
+        lent: Lent {
+            codes: 5,
+            ..USUAL_LENT
+        },
+        expected: Expected::Refused(Refusal::WrongLength),
+        ..USUAL
+    },
+    Example {
+        lent: Lent {
+            rows: 2,
+            ..USUAL_LENT
+        },
+        expected: Expected::Refused(Refusal::WrongLength),
+        ..USUAL
+    },
+    Example {
+        lent: Lent {
+            sums: 2,
+            ..USUAL_LENT
+        },
+        expected: Expected::Refused(Refusal::WrongLength),
+        ..USUAL
+    },
+    Example {
+        lent: Lent {
+            table: 5,
+            ..USUAL_LENT
+        },
+        expected: Expected::Refused(Refusal::WrongLength),
+        ..USUAL
+    },
+    // a query that is no number, or infinite; -0.0; test 5 before test 6
+    Example {
+        query: &[0.0, f32::NAN],
+        expected: Expected::Refused(Refusal::NotFinite),
+        ..USUAL
+    },
+    Example {
+        query: &[f32::INFINITY, 0.0],
+        expected: Expected::Refused(Refusal::NotFinite),
+        ..USUAL
+    },
+    Example {
+        query: &[-0.0, -0.0],
+        ..USUAL
+    },
+    Example {
+        lent: Lent {
+            rows: 4_097,
+            sums: 4_097,
+            ..USUAL_LENT
+        },
+        query: &[0.0, f32::NAN],
+        expected: Expected::Refused(Refusal::TooManyAsked),
+        ..USUAL
+    },
+    // a damaged code of a visible row, and of a hidden one
+    Example {
+        codes: &[0, 1, 2, 4],
+        expected: Expected::Blank(Refusal::Damaged),
+        ..USUAL
+    },
+    Example {
+        hidden: Some(3),
+        codes: &[0, 1, 2, 4],
+        expected: Expected::Found {
+            found: 3,
+            scored: 3,
+            rows: &[1, 0, 2],
+            sums: &[1.0, 4.0, 4.0],
+        },
+        ..USUAL
+    },
+    // a table entry that overflows, though no row has it; the same without a visible row; the square of 2^63
+    Example {
+        shape: Shape {
+            d: 1,
+            nsub: 1,
+            bits: 1,
+        },
+        n: 1,
+        lent: Lent {
+            query: 1,
+            mask: 1,
+            subs: 2,
+            codes: 1,
+            rows: 1,
+            sums: 1,
+            table: 2,
+        },
+        codes: &[],
+        subs: &[0.0, TO_64],
+        expected: Expected::Blank(Refusal::DistanceNotFinite),
+        ..USUAL
+    },
+    Example {
+        shape: Shape {
+            d: 1,
+            nsub: 1,
+            bits: 1,
+        },
+        n: 1,
+        lent: Lent {
+            query: 1,
+            mask: 1,
+            subs: 2,
+            codes: 1,
+            rows: 1,
+            sums: 1,
+            table: 2,
+        },
+        hidden: Some(0),
+        codes: &[],
+        subs: &[0.0, TO_64],
+        expected: Expected::Found {
+            found: 0,
+            scored: 0,
+            rows: &[],
+            sums: &[],
+        },
+        ..USUAL
+    },
+    Example {
+        shape: Shape {
+            d: 1,
+            nsub: 1,
+            bits: 1,
+        },
+        n: 1,
+        lent: Lent {
+            query: 1,
+            mask: 1,
+            subs: 2,
+            codes: 1,
+            rows: 1,
+            sums: 1,
+            table: 2,
+        },
+        codes: &[1],
+        subs: &[0.0, TO_63],
+        expected: Expected::Found {
+            found: 1,
+            scored: 1,
+            rows: &[0],
+            sums: &[TO_126],
+        },
+        ..USUAL
+    },
+    // a sum of finite entries that overflows, and one that does not
+    Example {
+        shape: Shape {
+            d: 4,
+            nsub: 2,
+            bits: 0,
+        },
+        n: 1,
+        lent: Lent {
+            query: 4,
+            mask: 1,
+            subs: 4,
+            codes: 2,
+            rows: 1,
+            sums: 1,
+            table: 2,
+        },
+        codes: &[],
+        subs: &[TO_63, TO_63, TO_63, TO_63],
+        expected: Expected::Blank(Refusal::DistanceNotFinite),
+        ..USUAL
+    },
+    Example {
+        shape: Shape {
+            d: 4,
+            nsub: 2,
+            bits: 0,
+        },
+        n: 1,
+        lent: Lent {
+            query: 4,
+            mask: 1,
+            subs: 4,
+            codes: 2,
+            rows: 1,
+            sums: 1,
+            table: 2,
+        },
+        codes: &[],
+        subs: &[TO_63, TO_63, TO_63],
+        expected: Expected::Found {
+            found: 1,
+            scored: 1,
+            rows: &[0],
+            sums: &[SUM],
+        },
+        ..USUAL
+    },
+];
 
 // Whether results and table are as they were.
 fn is_untouched(rows: &[u32], sums: &[f32], table: &[f32]) -> bool {
-    listed::numbers_are(rows, buffers::DIRTY_NUMBER)
-        & listed::floats_are(sums, buffers::DIRTY_FLOAT)
-        & listed::floats_are(table, buffers::DIRTY_FLOAT)
+    are(rows, DIRTY_NUMBER) && are(sums, DIRTY_FLOAT) && are(table, DIRTY_FLOAT)
 }
 
-// Whether results and table are those expected: after 10 and 11 blank and zero.
-fn is_written(x: [u32; 8], y: [f32; 5], rows: &[u32], sums: &[f32], table: &[f32]) -> bool {
-    let named = [x[3], x[4], x[5], x[6], x[7]];
-    let summed = y;
-    listed::numbers(rows, &named, BLANK)
-        & listed::floats(sums, &summed, 0.0)
-        & listed::floats_are(table, 0.0)
+// Whether results are those of two lists, blank and 0 after them, and the table is zero.
+fn is_written(named: &[u32], summed: &[f32], rows: &[u32], sums: &[f32], table: &[f32]) -> bool {
+    same(rows, named, BLANK) && same(sums, summed, 0.0) && are(table, 0.0)
 }
 
-// Whether results and table are left as they must be: after refusals 1 to 6 as they were.
-fn is_left(x: [u32; 8], y: [f32; 5], rows: &[u32], sums: &[f32], table: &[f32]) -> bool {
-    if (0 < x[0]) & (x[0] < 7) {
-        is_untouched(rows, sums, table)
-    } else {
-        is_written(x, y, rows, sums, table)
+// Whether an answer, and what results and table hold, are those expected.
+fn is_expected(
+    x: &Expected,
+    a: Result<Found, Refusal>,
+    rows: &[u32],
+    sums: &[f32],
+    table: &[f32],
+) -> bool {
+    match *x {
+        Expected::Refused(r) => a == Err(r) && is_untouched(rows, sums, table),
+        Expected::Blank(r) => a == Err(r) && is_written(&[], &[], rows, sums, table),
+        Expected::Found {
+            found,
+            scored,
+            rows: named,
+            sums: summed,
+        } => a == Ok(Found { found, scored }) && is_written(named, summed, rows, sums, table),
     }
 }
 
-// Whether a search comes out as document 01 says, in the first elements of larger buffers, as many as are to be lent.
-fn searches_in(
-    g: [usize; 11],
-    x: [u32; 8],
-    y: [f32; 5],
-    query: &[f32],
-    mask: &[u8],
-    subs: &[f32],
-    codes: &[u8],
-    rows: &mut [u32],
-    sums: &mut [f32],
-    table: &mut [f32],
-) -> bool {
-    let r = held::numbers(rows, g[8]);
-    let s = held::floats(sums, g[9]);
-    let t = held::floats(table, g[10]);
-    let a = plain_search::search(
-        shape(g),
-        g[3],
-        parts::floats(query, g[4]),
-        parts::bytes(mask, g[5]),
-        parts::floats(subs, g[6]),
-        parts::bytes(codes, g[7]),
-        &mut rows[..r],
-        &mut sums[..s],
-        &mut table[..t],
-    );
-    is_answer(answers::search_answer(a), x)
-        & is_left(
-            x,
-            y,
-            parts::numbers(rows, r),
-            parts::floats(sums, s),
-            parts::floats(table, t),
-        )
-}
-
-// The same, in buffers that nobody wrote.
-fn searches(
-    g: [usize; 11],
-    x: [u32; 8],
-    y: [f32; 5],
-    query: &[f32],
-    mask: &[u8],
-    subs: &[f32],
-    codes: &[u8],
-) -> bool {
-    let mut rows = buffers::numbers(buffers::DIRTY_NUMBER);
-    let mut sums = buffers::floats(buffers::DIRTY_FLOAT);
-    let mut table = buffers::floats(buffers::DIRTY_FLOAT);
-    searches_in(
-        g, x, y, query, mask, subs, codes, &mut rows, &mut sums, &mut table,
-    )
-}
-
-// The query and the sub-centres, and zeros after them.
-fn write_floats(v: [f32; 10], query: &mut [f32], subs: &mut [f32]) {
-    let point = [v[0], v[1]];
-    let centers = [v[2], v[3], v[4], v[5], v[6], v[7], v[8], v[9]];
-    listed::write_floats(&point, 0.0, query);
-    listed::write_floats(&centers, 0.0, subs);
-}
-
-// The codes of n bytes: the first four, the last one if there are more, and zeros.
-fn write_codes(c: [u8; 5], n: usize, out: &mut [u8]) {
-    let first = [c[0], c[1], c[2], c[3]];
-    listed::write_bytes(&first, 0, out);
-    if 4 < n {
-        if n <= out.len() {
-            out[n - 1] = c[4];
-        }
-    }
-}
-
-// One row becomes hidden, if the mask has it.
-fn hide(row: usize, mask: &mut [u8]) {
+// The mask of an example: all rows but the hidden one.
+fn write_mask(e: &Example, mask: &mut [u8]) {
+    let Some(row) = e.hidden else {
+        return;
+    };
     if row < mask.len() {
         mask[row] = 0;
     }
 }
 
-// Whether an example comes out as document 01 says.
-fn agrees(g: [usize; 11], c: [u8; 5], row: usize, x: [u32; 8], v: [f32; 10], y: [f32; 5]) -> bool {
-    let mut query = [0.0f32; 512];
-    let mut subs = [0.0f32; 1_024];
-    let mut mask = buffers::bytes(128);
-    let mut codes = buffers::bytes(0);
-    write_floats(v, &mut query, &mut subs);
-    hide(row, &mut mask);
-    write_codes(c, g[7], &mut codes);
-    searches(g, x, y, &query, &mask, &subs, &codes)
+// Whether an example comes out as document 01 says, in the first elements of larger buffers that nobody wrote.
+fn agrees(e: &Example) -> bool {
+    let mut query: [f32; 512] = filled(0.0);
+    let mut subs: [f32; 1_024] = filled(0.0);
+    let mut mask: [u8; ROWS] = filled(128);
+    let mut codes: [u8; ROWS] = filled(0);
+    write(e.query, 0.0, &mut query);
+    write(e.subs, 0.0, &mut subs);
+    write_mask(e, &mut mask);
+    given::write_ends(e.codes, e.last_code, e.lent.codes, 0, &mut codes);
+    let mut rows: [u32; WORK] = filled(DIRTY_NUMBER);
+    let mut sums: [f32; ROWS] = filled(DIRTY_FLOAT);
+    let mut table: [f32; ROWS] = filled(DIRTY_FLOAT);
+    let r = held(&rows, e.lent.rows);
+    let s = held(&sums, e.lent.sums);
+    let t = held(&table, e.lent.table);
+    let rows = &mut rows[..r];
+    let sums = &mut sums[..s];
+    let table = &mut table[..t];
+    let a = plain_search::search(
+        e.shape,
+        e.n,
+        first(&query, e.lent.query),
+        first(&mask, e.lent.mask),
+        first(&subs, e.lent.subs),
+        first(&codes, e.lent.codes),
+        rows,
+        sums,
+        table,
+    );
+    is_expected(&e.expected, a, rows, sums, table)
 }
 
-// Counts the examples, and those that come out as document 01 says.
+// Counts the examples, and those that come out as document 01 says. Of each table its own: the examples are of another type.
 pub(crate) fn agreeing(before: Tally) -> Tally {
     let mut t = before;
-    for i in 0..EXAMPLES {
-        let agree = agrees(
-            given(i),
-            codes(i),
-            hidden(i),
-            expected(i),
-            values(i),
-            sums(i),
-        );
-        t = lending::tally::counted(t, agree);
+    for e in &EXAMPLES {
+        t = counted(t, agrees(e));
     }
     t
 }

@@ -9,14 +9,12 @@ use Rattle.lists.specs.Lists.{tab, join, put_part}
 use Rattle.lists.specs.Tests.{every, first, count}
 use Rattle.lists.specs.Examples.{Example, agree}
 use Rattle.metrics.specs.Distance.{sum_to, squared, worked}
-use Rattle.metrics.specs.declared.Worked.{Worked}
-use Rattle.metrics.specs.declared.Worked.TheVariants.{Finite, NotFinite}
-use Rattle.answers.specs.declared.Clustered.{Clustered}
+use Rattle.std.specs.Prelude.{Option, Some, None}
 use Rattle.answers.specs.declared.Stage.TheVariants.{Coarse}
-use Rattle.answers.specs.Answers.{cluster_said}
+use Rattle.answers.specs.Answers.{Clustered, cluster_said}
 use Rattle.kmeans_assign.specs.Task.{Task}
 use Rattle.kmeans_split.specs.Run.{Run}
-use Rattle.kmeans_average.specs.Finite.{finite_center}
+use Rattle.kmeans_average.specs.Finite.{finite_center, lowest}
 use Rattle.kmeans_start.specs.Start.{mean_at, start_at, started, mean_of}
 use Rattle.kmeans_assign.specs.Assign.{nearest, assigned_of}
 use Rattle.kmeans_average.specs.Average.{sum_where, average_at}
@@ -67,11 +65,11 @@ abbrev bits : List Float → List ℕ
 bits l = map (to_bits binary32) l
 
 -- distances 4, 1, 1, and two marks before 1
-abbrev tied : ℕ → Worked
+abbrev tied : ℕ → Option Float
 tied i = worked (get_or (map (of_bits binary32) (f4 ∷ f1 ∷ f1 ∷ [])) i nan)
 
-abbrev marked : ℕ → Worked
-marked i = get_or (NotFinite ∷ NotFinite ∷ Finite (of_bits binary32 f1) ∷ []) i NotFinite
+abbrev marked : ℕ → Option Float
+marked i = get_or (None ∷ None ∷ Some (of_bits binary32 f1) ∷ []) i None
 
 abbrev averaged_run : Run
 averaged_run = averaged (task 2 four_draws) 1 (beginning (task 2 four_draws) 0) 0
@@ -110,5 +108,5 @@ kmeans_table =
     ∷ []
 
 pub kmeans-examples : agree kmeans_table ≡ true
-unfolding start_at mean_at sum_to squared worked add sub mul div lt of_bits to_bits of_int tab join every first count nearest finite_center sum_where mean_of average_at put_part split_centers split_counts split_off fill_center split_to averaged epoch_of beginning epochs_to
+unfolding start_at mean_at sum_to squared worked add sub mul div lt of_bits to_bits of_int tab join every first count nearest finite_center lowest sum_where mean_of average_at put_part split_centers split_counts split_off fill_center split_to averaged epoch_of beginning epochs_to
 kmeans-examples = refl

@@ -11,25 +11,26 @@ use borrow.Author.Tests.{lt-ltb, le-ltb}
 use lib.Dec.{ltb}
 use Rattle.lists.specs.Lists.{fill}
 use Rattle.answers.specs.declared.Step.TheVariants.{Start, Averaging}
-use Rattle.answers.specs.declared.Clustered.TheVariants.{Done, NotFinite}
-use Rattle.kmeans_assign.specs.declared.Frame.{Frame}
-use Rattle.kmeans_assign.specs.Task.{task_of, row_task, Task}
+use Rattle.std.specs.Prelude.{Option, Some, None, Ok}
+use Rattle.answers.specs.declared.Step.{Step}
+use Rattle.answers.specs.Answers.{Clustered}
+use Rattle.kmeans_assign.specs.declared.Given.{Given}
+use Rattle.kmeans_assign.specs.Task.{task_given, row_given, Task}
 use Rattle.kmeans_average.specs.Average.{averages_of, counts_of}
 use Rattle.kmeans_assign.specs.Assign.{assigned_of}
 use Rattle.kmeans_start.specs.Start.{started}
 use Rattle.kmeans_average.specs.Finite.{lowest_broken}
 use Rattle.kmeans_split.specs.Split.{split_to}
 use Rattle.kmeans_split.specs.Run.{Run, run_of}
-use Rattle.kmeans.specs.Kmeans.{averaged, epoch_of, epochs_to, beginning, train}
+use Rattle.kmeans.specs.Kmeans.{tested, averaged, epoch_of, epochs_to, beginning, train}
 use Rattle.kmeans_average.proofs.Averaging.{averages-same}
 use Rattle.kmeans_split.proofs.Runs.{NotDone, stays, split-none, split_stays}
 
 -- what averaging leaves
-pub averaged-run : (t : Task) (epoch used broken : ℕ) (q : Run) (cs : List Float) (to counts : List ℕ) → to ≡ assigned_of t q.centers → cs ≡ averages_of t to → counts ≡ counts_of t to
-    → broken ≡ lowest_broken cs t.w t.centers
-    → run_of (cond (ltb broken t.centers) (NotFinite Averaging epoch broken) (Done used)) cs to counts ≡ averaged t epoch q used
+pub averaged-run : (t : Task) (epoch used : ℕ) (q : Run) (answer : Clustered) (cs : List Float) (to counts : List ℕ) → to ≡ assigned_of t q.centers → cs ≡ averages_of t to
+    → counts ≡ counts_of t to → answer ≡ tested Averaging epoch used (lowest_broken cs t.w t.centers) → run_of answer cs to counts ≡ averaged t epoch q used
 unfolding averaged
-averaged-run t epoch used broken q cs to counts e f g h = rw (h, g, f, e)
+averaged-run t epoch used q answer cs to counts e f g h = rw (h, g, f, e)
 
 -- an epoch whose averaging refuses, the last epoch, and one that splits
 pub epoch-refused : (t : Task) (epoch used : ℕ) (r q : Run) → q ≡ averaged t epoch r used → NotDone q.answer → q ≡ epoch_of t epoch r used
@@ -49,22 +50,20 @@ unfolding epoch_of
 epoch-split t epoch used r q p e h f = rw (lt-ltb epoch t.epochs h, ← e) f
 
 -- averaging looks at no draws and uses none
-pub averaged-same : (f : Frame) (rows : List Float) (members : List ℕ) (residual draws : List Float) (epochs epoch used : ℕ) (r : Run)
-    → averaged (row_task f rows members residual) epoch r used ≡ averaged (task_of f rows members residual epochs draws) epoch r used
+pub averaged-same : (g : Given) (draws : List Float) (epochs epoch used : ℕ) (r : Run) → averaged (row_given g) epoch r used ≡ averaged (task_given g epochs draws) epoch r used
 unfolding averaged
-averaged-same f rows members residual draws epochs epoch used r =
-    rw (averages-same f rows members residual draws epochs (assigned_of (row_task f rows members residual) r.centers))
+averaged-same g draws epochs epoch used r = rw (averages-same g draws epochs (assigned_of (row_given g) r.centers))
 
-pub averaged-done : (t : Task) (epoch used at : ℕ) (r q : Run) → q ≡ averaged t epoch r used → q.answer ≡ Done at → at ≡ used
+tested-used : (step : Step) (epoch used at : ℕ) (broken : Option ℕ) → tested step epoch used broken ≡ Ok at → at ≡ used
+tested-used step epoch used at None e = cc
+tested-used step epoch used at (Some i) e = cc
+
+pub averaged-done : (t : Task) (epoch used at : ℕ) (r q : Run) → q ≡ averaged t epoch r used → q.answer ≡ Ok at → at ≡ used
 unfolding averaged
-averaged-done t epoch used at r q e d = go (ltb (lowest_broken (averages_of t (assigned_of t r.centers)) t.w t.centers) t.centers) (sym (ap (λ (z : Run). z.answer) e) ∙ d)
-  where
-    go : (b : Bool) → cond b (NotFinite Averaging epoch (lowest_broken (averages_of t (assigned_of t r.centers)) t.w t.centers)) (Done used) ≡ Done at → at ≡ used
-    go true h = let z : ◌≡◌ {A = ℕ} 0 1 = cc in absurd (omega arith)
-    go false h = cc
+averaged-done t epoch used at r q e d = tested-used Averaging epoch used at _ (sym (ap (λ (z : Run). z.answer) e) ∙ d)
 
 -- one more epoch, and a refusal, from which on nothing changes
-pub epochs-step : (t : Task) (used at e : ℕ) (q p : Run) → q ≡ epochs_to t used e → q.answer ≡ Done at → p ≡ epoch_of t (e + 1) q at → p ≡ epochs_to t used (e + 1)
+pub epochs-step : (t : Task) (used at e : ℕ) (q p : Run) → q ≡ epochs_to t used e → q.answer ≡ Ok at → p ≡ epoch_of t (e + 1) q at → p ≡ epochs_to t used (e + 1)
 unfolding epochs_to
 epochs-step t used at e q p g d f = (rw add-one at f) ∙ rw (add-one, ← g, d)
 
@@ -76,18 +75,21 @@ epochs-stay t used i (suc n) h d = elim (dec_le i n) [
   | no k ↦ let e : i ≡ suc n = omega arith in rw e
 ]
 
-pub epochs-refused : (t : Task) (used at e : ℕ) (q p : Run) → q ≡ epochs_to t used e → q.answer ≡ Done at → p ≡ epoch_of t (e + 1) q at → NotDone p.answer → e < t.epochs
+pub epochs-refused : (t : Task) (used at e : ℕ) (q p : Run) → q ≡ epochs_to t used e → q.answer ≡ Ok at → p ≡ epoch_of t (e + 1) q at → NotDone p.answer → e < t.epochs
     → p ≡ train t used
 epochs-refused t used at e q p g d f n h =
     let k = epochs-step t used at e q p g d f in
     k ∙ sym (epochs-stay t used (e + 1) t.epochs (omega arith) (subst (λ (z : Run). NotDone z.answer) k n))
 
 -- what the start leaves, and a refusal there
-pub beginning-run : (t : Task) (used broken : ℕ) (cs : List Float) (to counts : List ℕ) → cs ≡ started t → to ≡ fill 0 t.n → counts ≡ fill 0 t.centers
-    → broken ≡ lowest_broken cs t.w t.centers
-    → run_of (cond (ltb broken t.centers) (NotFinite Start 0 broken) (Done used)) cs to counts ≡ beginning t used
+pub beginning-run : (t : Task) (used : ℕ) (answer : Clustered) (cs : List Float) (to counts : List ℕ) → cs ≡ started t → to ≡ fill 0 t.n → counts ≡ fill 0 t.centers
+    → answer ≡ tested Start 0 used (lowest_broken cs t.w t.centers) → run_of answer cs to counts ≡ beginning t used
 unfolding beginning
-beginning-run t used broken cs to counts e f g h = rw (h, g, f, e)
+beginning-run t used answer cs to counts e f g h = rw (h, g, f, e)
+
+pub beginning-done : (t : Task) (used at : ℕ) (q : Run) → q ≡ beginning t used → q.answer ≡ Ok at → at ≡ used
+unfolding beginning
+beginning-done t used at q e d = tested-used Start 0 used at _ (sym (ap (λ (z : Run). z.answer) e) ∙ d)
 
 pub beginning-refused : (t : Task) (used : ℕ) (q : Run) → q ≡ beginning t used → NotDone q.answer → q ≡ train t used
 unfolding epochs_to

@@ -1,8 +1,10 @@
 -- k-means on one range, with or without a residual: document 01's steps 1 to 5 in turn.
-use Rattle.std.specs.Prelude.{ℕ, zero, suc, ◌*◌, ◌≤◌, ◌≡◌, List, cond, length, ltb, Float}
+use Rattle.std.specs.Prelude.{ℕ, zero, suc, ◌*◌, ◌≤◌, ◌≡◌, List, cond, Option, Some, None, Ok, Err, length, ltb, Float}
 use Rattle.lists.specs.Lists.{fill}
+use Rattle.answers.specs.declared.Step.{Step}
 use Rattle.answers.specs.declared.Step.TheVariants.{Start, Averaging}
-use Rattle.answers.specs.declared.Clustered.TheVariants.{Done, NotFinite}
+use Rattle.answers.specs.declared.Unclustered.TheVariants.{NotFinite}
+use Rattle.answers.specs.Answers.{Clustered}
 use Rattle.kmeans_assign.specs.declared.Frame.{Frame}
 use Rattle.kmeans_assign.specs.Task.{Task}
 use Rattle.kmeans_assign.specs.Assign.{assigned_of}
@@ -12,14 +14,18 @@ use Rattle.kmeans_average.specs.Finite.{lowest_broken}
 use Rattle.kmeans_split.specs.Run.{Run, onward}
 use Rattle.kmeans_split.specs.Split.{NotNegative, split_to}
 
+-- the test for 9 after a step: the draws used so far, or the centre that is not finite
+abbrev pub tested : Step → ℕ → ℕ → Option ℕ → Clustered
+tested step epoch used None = Ok used
+tested step epoch used (Some i) = Err (NotFinite step epoch i)
+
 -- steps 3 and 4 of one epoch; test for 9, lowest centre first
 unfoldable pub averaged : Task → ℕ → Run → ℕ → Run
 averaged t epoch r used =
     let to = assigned_of t r.centers in
     let cs = averages_of t to in
-    let broken = lowest_broken cs t.w t.centers in
     record {
-      answer = cond (ltb broken t.centers) (NotFinite Averaging epoch broken) (Done used);
+      answer = tested Averaging epoch used (lowest_broken cs t.w t.centers);
       centers = cs;
       assigned = to;
       counts = counts_of t to;
@@ -36,9 +42,8 @@ epoch_of t epoch r used =
 unfoldable pub beginning : Task → ℕ → Run
 beginning t used =
     let cs = started t in
-    let broken = lowest_broken cs t.w t.centers in
     record {
-      answer = cond (ltb broken t.centers) (NotFinite Start 0 broken) (Done used);
+      answer = tested Start 0 used (lowest_broken cs t.w t.centers);
       centers = cs;
       assigned = fill 0 t.n;
       counts = fill 0 t.centers;

@@ -6,9 +6,8 @@ use mathlib.Core.Bool.{Bool, true, false, true≢false}
 use native.Mathlib.Decide.{dec_lt}
 use native.Mathlib.Omega.{arith}
 use lib.Ieee.{Float, nan, inf, fin}
+use Rattle.std.specs.Prelude.{Option, Some, None}
 use Rattle.lists.proofs.Tables.{last_or}
-use Rattle.metrics.specs.declared.Worked.{Worked}
-use Rattle.metrics.specs.declared.Worked.TheVariants.{Finite, NotFinite}
 use Rattle.metrics.specs.Distance.{worked, squared, coordinate}
 use Rattle.metrics.proofs.Order.{lt_irrefl, lt-asym, lt-not-lt}
 use Rattle.kmeans_assign.specs.Assign.{less_of, nearest, distance_to, chosen}
@@ -18,28 +17,28 @@ use Rattle.kmeans_assign.proofs.Choosing.{nearest-one}
 -- ---- the order of worked distances
 
 -- a mark is never less than another
-pub mark-less : (v : Worked) → less_of NotFinite v ≡ false
+pub mark-less : (v : Option Float) → less_of None v ≡ false
 mark-less v = refl
 
 -- every finite distance is less than a mark
-pub less-mark : (x : Float) → less_of (Finite x) NotFinite ≡ true
+pub less-mark : (x : Float) → less_of (Some x) None ≡ true
 less-mark x = refl
 
-less-irrefl : (v : Worked) → Sound v → less_of v v ≡ false
-less-irrefl (Finite x) s = lt_irrefl x s
-less-irrefl NotFinite s = refl
+less-irrefl : (v : Option Float) → Sound v → less_of v v ≡ false
+less-irrefl (Some x) s = lt_irrefl x s
+less-irrefl None s = refl
 
-less-asym : (v w : Worked) → Sound v → Sound w → less_of v w ≡ true → less_of w v ≡ false
-less-asym (Finite x) (Finite y) s t e = lt-asym x y s t e
-less-asym (Finite x) NotFinite s t e = refl
-less-asym NotFinite w s t e = absurd (true≢false (sym e))
+less-asym : (v w : Option Float) → Sound v → Sound w → less_of v w ≡ true → less_of w v ≡ false
+less-asym (Some x) (Some y) s t e = lt-asym x y s t e
+less-asym (Some x) None s t e = refl
+less-asym None w s t e = absurd (true≢false (sym e))
 
 -- u is less than v, and w is not: u is less than w
-less-not-less : (u v w : Worked) → Sound u → Sound v → Sound w → less_of u v ≡ true → less_of w v ≡ false → less_of u w ≡ true
-less-not-less NotFinite v w r s t e f = absurd (true≢false (sym e))
-less-not-less (Finite x) v NotFinite r s t e f = refl
-less-not-less (Finite x) NotFinite (Finite z) r s t e f = absurd (true≢false f)
-less-not-less (Finite x) (Finite y) (Finite z) r s t e f = lt-not-lt x y z r s t e f
+less-not-less : (u v w : Option Float) → Sound u → Sound v → Sound w → less_of u v ≡ true → less_of w v ≡ false → less_of u w ≡ true
+less-not-less None v w r s t e f = absurd (true≢false (sym e))
+less-not-less (Some x) v None r s t e f = refl
+less-not-less (Some x) None (Some z) r s t e f = absurd (true≢false f)
+less-not-less (Some x) (Some y) (Some z) r s t e f = lt-not-lt x y z r s t e f
 
 pub worked-sound : (x : Float) → Sound (worked x)
 unfolding worked
@@ -49,16 +48,16 @@ worked-sound (fin s m e) = refl
 
 -- ---- nearest
 
-kept : (d : ℕ → Worked) (n : ℕ) → less_of (d n) (d (nearest d n)) ≡ false → nearest d (suc n) ≡ nearest d n
+kept : (d : ℕ → Option Float) (n : ℕ) → less_of (d n) (d (nearest d n)) ≡ false → nearest d (suc n) ≡ nearest d n
 unfolding nearest
 kept d n e = rw e
 
-replaced : (d : ℕ → Worked) (n : ℕ) → less_of (d n) (d (nearest d n)) ≡ true → nearest d (suc n) ≡ n
+replaced : (d : ℕ → Option Float) (n : ℕ) → less_of (d n) (d (nearest d n)) ≡ true → nearest d (suc n) ≡ n
 unfolding nearest
 replaced d n e = rw e
 
 -- one more centre, which is not strictly less than the best, or is
-module _ (d : ℕ → Worked) (n c : ℕ) (h : NearestOf d n c) where
+module _ (d : ℕ → Option Float) (n c : ℕ) (h : NearestOf d n c) where
   no_less : less_of (d n) (d c) ≡ false → NearestOf d (suc n) c
   no_less e = record {
     below = omega arith;
@@ -76,7 +75,7 @@ module _ (d : ℕ → Worked) (n c : ℕ) (h : NearestOf d n c) where
         lowest = more;
       }
 
-pub nearest-rule : (d : ℕ → Worked) (n : ℕ) → 0 < n → ((i : ℕ) → i < n → Sound (d i)) → NearestOf d n (nearest d n)
+pub nearest-rule : (d : ℕ → Option Float) (n : ℕ) → 0 < n → ((i : ℕ) → i < n → Sound (d i)) → NearestOf d n (nearest d n)
 nearest-rule d zero h s = absurd (omega arith)
 nearest-rule d (suc zero) h s = rw (nearest-one d) (record {
   below = omega arith;
@@ -90,7 +89,7 @@ nearest-rule d (suc (suc n)) h s = go (less_of (d (suc n)) (d (nearest d (suc n)
     go false e g = rw (kept d (suc n) e) (no_less d (suc n) (nearest d (suc n)) g e)
 
 -- no other centre is so
-pub nearest-only : (d : ℕ → Worked) (n b c : ℕ) → NearestOf d n b → NearestOf d n c → b ≡ c
+pub nearest-only : (d : ℕ → Option Float) (n b c : ℕ) → NearestOf d n b → NearestOf d n c → b ≡ c
 nearest-only d n b c g h = elim (dec_lt b c) [
   | yes l ↦ absurd (true≢false (sym (h.lowest b l) ∙ g.least c h.below))
   | no l ↦ elim (dec_lt c b) [

@@ -1,30 +1,36 @@
--- A row's range lies within the rows and holds the row's values.
-use Prim.Native.Nat.{ℕ, ◌+◌, ◌*◌, ◌<◌}
+-- A row's range holds the row's values.
+use Prim.Native.Nat.{ℕ, ◌<◌}
 use mathlib.Core.Path.{◌≡◌, ap}
 use mathlib.Core.List.{List}
 use native.Mathlib.Omega.{arith}
-use lib.ListN.{length, get_or}
+use lib.ListN.{length}
 use lib.Ieee.{Float, nan}
-use Rattle.lists.specs.Lists.{Part, member_of}
+use denote.Bor.{Bor}
+use Rattle.std.specs.Prelude.{Option, Some, None, IfSome, option_copied}
+use Rattle.lists.specs.Lists.{Part}
 use Rattle.lists.proofs.Parts.{get_or-part}
-use Rattle.metrics.specs.Distance.{value_in, value_of}
-use Rattle.kmeans_assign.specs.declared.Frame.{Frame}
-use Rattle.kmeans_assign.specs.Task.{value_at, Framed, RowHeld}
+use Rattle.metrics.specs.Distance.{value_in, value_of, residual_at}
+use Rattle.kmeans_assign.specs.declared.Given.{Given}
+use Rattle.kmeans_assign.specs.Task.{FramedGiven, range_begin, row_given}
 use Rattle.kmeans_assign.specs.Assign.{chosen}
 use Rattle.kmeans_assign.proofs.Choosing.{chosen-ext}
 
--- the range of each row of a frame lies within the rows
-pub row-held : {f : Frame} {rows : List Float} {members : List ℕ} {residual : List Float} {k : ℕ} → Framed f rows members residual → k < f.n
-    → RowHeld f rows members k
-row-held {k = k} s h = record { listed-long = λ e. omega (arith, s.listed-long e); held = omega (arith, s.held k h, s.inside) }
+-- what holds of the list behind a reference, if there is one, is said of the reference
+pub behind : {A : Type 0} {P Q : A → Type 0} (o : Option (Bor A)) → ((x : A) → P x → Q x) → IfSome (option_copied o) P → IfSome o (λ r. Q r.now)
+behind None f h = h
+behind (Some r) f h = f r.now h
+
+-- the residual is as long as a row's range
+pub residual-held : (g : Given) (w : ℕ) → FramedGiven g → w ≡ g.frame.w → IfSome g.residual (λ r. length r.now ≡ w)
+residual-held g w s h = behind g.residual (λ r e. omega arith) s.residual-long
 
 -- the slice of a row's range holds the row's values
-pub row-value : {rows x : List Float} (f : Frame) (members : List ℕ) (residual : List Float) (k j : ℕ) → Part rows (member_of f.listed members k * f.d + f.begin) f.w x
-    → j < f.w → value_in f.has x residual j ≡ value_at f rows members residual k j
-row-value {rows} f members residual k j p h =
-    ap (λ (v : Float). value_of f.has v (get_or residual j nan)) (rw p.is (get_or-part rows (member_of f.listed members k * f.d + f.begin) f.w j nan h))
+pub row-value : {x : List Float} (g : Given) (k j : ℕ) → Part g.rows.now (range_begin g k) g.frame.w x
+    → j < g.frame.w → value_in (option_copied g.residual) x j ≡ (row_given g).value k j
+row-value g k j p h =
+    ap (λ (v : Float). value_of (residual_at (option_copied g.residual) j) v) (rw p.is (get_or-part g.rows.now (range_begin g k) g.frame.w j nan h))
 
-pub row-chosen : {rows x : List Float} (f : Frame) (members : List ℕ) (residual cs : List Float) (k n : ℕ) → Part rows (member_of f.listed members k * f.d + f.begin) f.w x
-    → chosen (value_in f.has x residual) cs (length x) n ≡ chosen (value_at f rows members residual k) cs f.w n
-row-chosen {rows} {x} f members residual cs k n p =
-    rw p.long (chosen-ext (value_in f.has x residual) (value_at f rows members residual k) cs f.w n (λ j h. row-value f members residual k j p h))
+pub row-chosen : {x : List Float} (g : Given) (cs : List Float) (k n : ℕ) → Part g.rows.now (range_begin g k) g.frame.w x
+    → chosen (value_in (option_copied g.residual) x) cs (length x) n ≡ chosen ((row_given g).value k) cs g.frame.w n
+row-chosen {x} g cs k n p =
+    rw p.long (chosen-ext (value_in (option_copied g.residual) x) ((row_given g).value k) cs g.frame.w n (λ j h. row-value g k j p h))

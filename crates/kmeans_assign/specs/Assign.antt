@@ -1,26 +1,24 @@
 -- k-means' step 3: assign. (Step 2, the distance, is `distance` of metrics.)
-use Rattle.std.specs.Prelude.{ℕ, zero, suc, List, Bool, true, false, cond, Float}
+use Rattle.std.specs.Prelude.{ℕ, zero, suc, List, Bool, true, false, cond, Option, Some, None, Float}
 use Rattle.std.specs.Float.Ieee.{lt}
 use Rattle.lists.specs.Lists.{tab}
 use Rattle.metrics.specs.Distance.{coordinate, distance}
-use Rattle.metrics.specs.declared.Worked.{Worked}
-use Rattle.metrics.specs.declared.Worked.TheVariants.{Finite, NotFinite}
 use Rattle.kmeans_assign.specs.Task.{Task}
 
 -- A distance that is not finite is never less than another, and every finite distance is less than it.
-abbrev pub less_of : Worked → Worked → Bool
-less_of (Finite x) (Finite y) = lt x y
-less_of (Finite x) NotFinite = true
-less_of NotFinite d = false
+abbrev pub less_of : Option Float → Option Float → Bool
+less_of (Some x) (Some y) = lt x y
+less_of (Some x) None = true
+less_of None d = false
 
 -- From centre 0, a later centre replaces the best only if strictly less: the best of the first n, centre i being at distance d i.
 -- (Centre 0 is not less than itself.)
-unfoldable pub nearest : (ℕ → Worked) → ℕ → ℕ
+unfoldable pub nearest : (ℕ → Option Float) → ℕ → ℕ
 nearest d zero = 0
 nearest d (suc i) = let best = nearest d i in cond (less_of (d i) (d best)) i best
 
 -- the centre, of n centres cs of width w, that the values x are assigned to
-abbrev pub distance_to : (ℕ → Float) → List Float → ℕ → ℕ → Worked
+abbrev pub distance_to : (ℕ → Float) → List Float → ℕ → ℕ → Option Float
 distance_to x cs w i = distance x (coordinate cs w i) w
 
 abbrev pub chosen : (ℕ → Float) → List Float → ℕ → ℕ → ℕ

@@ -2,7 +2,7 @@
 use Prim.Native.Nat.{ℕ, ◌+◌, ◌*◌, ◌<◌}
 use native.Mathlib.Nat.{lt_of_lt_of_le}
 use mathlib.Core.Path.{◌≡◌, refl, sym, ◌∙◌, ap}
-use mathlib.Core.Bool.{Bool}
+use Rattle.std.specs.Prelude.{Option}
 use mathlib.Core.List.{List, ◌++◌}
 use native.Mathlib.Omega.{arith}
 use native.Mathlib.Numerals.{add-one}
@@ -15,7 +15,8 @@ use Rattle.lists.proofs.Joins.{grid-ext, part-grid, put-grid, get_or-grid, grid-
 use Rattle.lists.proofs.Parts.{get_or-part}
 use Rattle.metrics.specs.Distance.{value_in}
 use Rattle.kmeans_assign.specs.declared.Frame.{Frame}
-use Rattle.kmeans_assign.specs.Task.{task_of, row_task, Task}
+use Rattle.kmeans_assign.specs.declared.Given.{Given}
+use Rattle.kmeans_assign.specs.Task.{task_given, row_given, Task}
 use Rattle.kmeans_average.specs.Average.{Assigned, count_at, sum_where, average_at, averages_of, counts_of}
 use Rattle.kmeans_start.specs.Start.{mean_of}
 use Rattle.kmeans_assign.specs.Assign.{assigned_of, chosen_at}
@@ -33,17 +34,21 @@ module _ (t : Task) (to : List ℕ) (k : ℕ) where
   unfolding sum_where
   other-sum i h j = rw (add-one, ne_eqb (get_or to k 0) i (λ e. h (sym e)))
 
-pub center-step : (t : Task) (to : List ℕ) (k n w a : ℕ) (centers x r : List Float) (has : Bool) → a < n → a ≡ get_or to k 0
-    → centers ≡ grid (center_sum t to k) n w → ((j : ℕ) → j < w → value_in has x r j ≡ t.value k j)
-    → added_to centers a w has x r ≡ grid (center_sum t to (k + 1)) n w
+pub center-step : (t : Task) (to : List ℕ) (k n w a : ℕ) (centers x : List Float) (r : Option (List Float)) → a < n → a ≡ get_or to k 0
+    → centers ≡ grid (center_sum t to k) n w → ((j : ℕ) → j < w → value_in r x j ≡ t.value k j)
+    → added_to centers a w r x ≡ grid (center_sum t to (k + 1)) n w
 unfolding added_to
-center-step t to k n w a centers x r has h p e f =
+center-step t to k n w a centers x r h p e f =
     rw (p, e)
     (ap (put_part (grid (center_sum t to k) n w) (get_or to k 0 * w) w) (tab-ext _ _ w (λ j l. row j l))
     ∙ put-grid (center_sum t to k) (center_sum t to (k + 1)) n w (get_or to k 0) (omega arith) (λ i q j l. other-sum t to k i q j))
   where
-    row : (j : ℕ) → j < w → added_at (part (grid (center_sum t to k) n w) (get_or to k 0 * w) w) has x r j ≡ center_sum t to (k + 1) (get_or to k 0) j
+    row : (j : ℕ) → j < w → added_at (part (grid (center_sum t to k) n w) (get_or to k 0 * w) w) r x j ≡ center_sum t to (k + 1) (get_or to k 0) j
     row j l = rw (part-grid (center_sum t to k) n w (get_or to k 0) (omega arith), get_or-tab _ w j nan l, f j l, own-sum t to k j)
+
+-- the centre that row k is assigned to is one of them
+pub own-below : {f : Frame} {to : List ℕ} {k a : ℕ} → Assigned f to → k < length to → a ≡ get_or to k 0 → a < f.centers
+own-below {k = k} h l e = rw e (h.below k (omega (arith, h.long)))
 
 -- the means of the sums are the averages
 pub means-average : (t : Task) (to : List ℕ) (cs : List Float) (counts : List ℕ) → cs ≡ grid (center_sum t to t.n) t.centers t.w → counts ≡ counts_of t to
@@ -66,12 +71,9 @@ assigned-of f t cs to p q h e = record {
 }
 
 -- averages look at no draws
-average-same : (f : Frame) (rows : List Float) (members : List ℕ) (residual draws : List Float) (epochs : ℕ) (to : List ℕ) (i j : ℕ)
-    → average_at (row_task f rows members residual) to i j ≡ average_at (task_of f rows members residual epochs draws) to i j
+average-same : (g : Given) (draws : List Float) (epochs : ℕ) (to : List ℕ) (i j : ℕ) → average_at (row_given g) to i j ≡ average_at (task_given g epochs draws) to i j
 unfolding average_at
-average-same f rows members residual draws epochs to i j = refl
+average-same g draws epochs to i j = refl
 
-pub averages-same : (f : Frame) (rows : List Float) (members : List ℕ) (residual draws : List Float) (epochs : ℕ) (to : List ℕ)
-    → averages_of (row_task f rows members residual) to ≡ averages_of (task_of f rows members residual epochs draws) to
-averages-same f rows members residual draws epochs to =
-    grid-ext _ _ f.centers f.w (λ i h j l. average-same f rows members residual draws epochs to i j)
+pub averages-same : (g : Given) (draws : List Float) (epochs : ℕ) (to : List ℕ) → averages_of (row_given g) to ≡ averages_of (task_given g epochs draws) to
+averages-same g draws epochs to = grid-ext _ _ g.frame.centers g.frame.w (λ i h j l. average-same g draws epochs to i j)

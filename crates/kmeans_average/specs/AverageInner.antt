@@ -1,5 +1,5 @@
 -- What the inner functions of step 4 leave in the slices that they are lent.
-use Rattle.std.specs.Prelude.{ℕ, ◌+◌, ◌*◌, List, Bool, get_or, Float}
+use Rattle.std.specs.Prelude.{ℕ, ◌+◌, ◌*◌, List, Option, get_or, Float}
 use Rattle.std.specs.Float.{nan}
 use Rattle.lists.specs.Lists.{part, put_part, tab}
 use Rattle.kmeans_assign.specs.Task.{Task}
@@ -12,8 +12,8 @@ abbrev pub center_sum : Task → List ℕ → ℕ → ℕ → ℕ → Float
 center_sum t to k i j = sum_where (is_of to i) (column t j) k
 
 -- centres, with the values of one more row added to centre a
-unfoldable pub added_to : List Float → ℕ → ℕ → Bool → List Float → List Float → List Float
-added_to cs a w has x r = put_part cs (a * w) w (tab (added_at (part cs (a * w) w) has x r) w)
+unfoldable pub added_to : List Float → ℕ → ℕ → Option (List Float) → List Float → List Float
+added_to cs a w r x = put_part cs (a * w) w (tab (added_at (part cs (a * w) w) r x) w)
 
 -- centre i's sums as means
 abbrev pub means_at : List Float → List ℕ → ℕ → ℕ → ℕ → Float

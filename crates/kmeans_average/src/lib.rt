@@ -1,26 +1,28 @@
 // k-means' step 4: each centre becomes the average of its rows; and the test for 9, that centres are finite.
 #![tactic(auto)]
 
-ghost use Rattle.std.specs.Prelude.{◌≡◌, ◌+◌, ◌*◌, ◌≤◌, ◌<◌, length, get_or, set};
+ghost use Rattle.std.specs.Prelude.{◌≡◌, ◌+◌, ◌*◌, ◌≤◌, ◌<◌, length, get_or, set, IfSome, option_copied};
 ghost use Rattle.lists.specs.Lists.{tab, fill, part, put_part, grid};
 ghost use Rattle.metrics.specs.Distance.{zero32};
-ghost use Rattle.kmeans_assign.specs.Task.{Framed, row_task};
+ghost use Rattle.kmeans_assign.specs.Task.{FramedGiven, row_given};
 ghost use Rattle.kmeans_start.specs.StartInner.{mean_in};
 ghost use Rattle.kmeans_average.specs.Average.{Assigned, averages_of, counts_of};
 ghost use Rattle.kmeans_average.specs.Finite.{finite_center, lowest_broken};
 ghost use Rattle.kmeans_average.specs.AverageInner.{added_to, center_sum, means_at};
 
-use kmeans_assign::Frame;
+use kmeans_assign::Given;
 
 // The values of x are added to centre a.
-fn add_to_center(centers: &mut [f32], a: usize, x: &[f32], residual: &[f32], has: bool)
-    requires { (length residual.now ≡ length x.now) × (a * length x.now + length x.now ≤ length centers.old) }
+#[tactic(auto, unfolding(lists::specs::Lists::put_part, lists::specs::Lists::part, crate::specs::AverageInner::added_to))]
+fn add_to_center(centers: &mut [f32], a: usize, x: &[f32], residual: Option<&[f32]>)
+    requires residual_len { IfSome residual (λ r. length r.now ≡ length x.now) }
+    requires centers_len { a * length x.now + length x.now ≤ length centers.old }
     ensures { let v = x.now in
-        centers.new ≡ added_to centers.old a (length v) has v residual.now }
+        centers.new ≡ added_to centers.old a (length v) (option_copied residual.entry) v }
 {
     let b = a * x.len();
     let e = b + x.len();
-    kmeans_start::add_into(&mut centers[b..e], x, residual, has);
+    kmeans_start::add_into(&mut centers[b..e], x, residual);
 }
 
 // One more row of centre a.
@@ -28,36 +30,28 @@ fn count_one(counts: &mut [u32], a: usize)
     requires { (a < length counts.old) × (get_or counts.old a 0 < 100_001) }
     ensures { counts.new ≡ set counts.old a (get_or counts.old a 0 + 1) }
 {
-    counts[a] = counts[a] + 1;
+    counts[a] += 1;
 }
 
 // Each row is added to its centre and counted there.
-fn accumulate(
-    f: Frame,
-    rows: &[f32],
-    members: &[u32],
-    residual: &[f32],
-    assigned: &[u32],
-    centers: &mut [f32],
-    counts: &mut [u32],
-)
-    requires framed { Framed f rows.now members.now residual.now }
-    requires assigned { Assigned f assigned.now }
-    requires centers_value { (centers.old ≡ fill zero32 (f.centers * f.w)) × (counts.old ≡ fill 0 f.centers) }
-    ensures { let t = row_task f rows.now members.now residual.now in
+fn accumulate(g: Given<'_>, assigned: &[u32], centers: &mut [f32], counts: &mut [u32])
+    requires framed { FramedGiven g }
+    requires assigned { Assigned g.frame assigned.now }
+    requires centers_value { let f = g.frame in
+        (centers.old ≡ fill zero32 (f.centers * f.w)) × (counts.old ≡ fill 0 f.centers) }
+    ensures { let t = row_given g.entry in
         let to = assigned.now in
-        let sums = grid (center_sum t to f.n) f.centers f.w in
-        (centers.new ≡ sums) × (counts.new ≡ counts_of t to) }
+        (centers.new ≡ grid (center_sum t to t.n) t.centers t.w) × (counts.new ≡ counts_of t to) }
 {
-    for k in 0..f.n {
-        let x = kmeans_assign::row_range(f, rows, members, k);
-        let a = lists::wide(assigned[k]);
-        add_to_center(centers, a, x, residual, f.has);
+    for (k, to) in assigned.iter().enumerate() {
+        let a = lists::wide(*to);
+        add_to_center(centers, a, g.row_range(k), g.residual);
         count_one(counts, a);
     }
 }
 
 // The sums of centre i become means.
+#[tactic(auto, unfolding(lists::specs::Lists::put_part, lists::specs::Lists::part))]
 fn mean_center(centers: &mut [f32], i: usize, w: usize, rows: u32)
     requires { i * w + w ≤ length centers.old }
     ensures { let cs = centers.old in
@@ -74,32 +68,24 @@ fn mean_centers(centers: &mut [f32], w: usize, counts: &[u32])
     ensures { let n = length counts.now in
         centers.new ≡ grid (means_at centers.old counts.now w) n w }
 {
-    for i in 0..counts.len() {
-        mean_center(centers, i, w, counts[i]);
+    for (i, rows) in counts.iter().enumerate() {
+        mean_center(centers, i, w, *rows);
     }
 }
 
 // Step 4: each centre becomes the mean of its rows, an empty one all zero; and how many rows each has.
-pub fn update_center(
-    f: Frame,
-    rows: &[f32],
-    members: &[u32],
-    residual: &[f32],
-    assigned: &[u32],
-    centers: &mut [f32],
-    counts: &mut [u32],
-)
-    requires framed { Framed f rows.now members.now residual.now }
-    requires assigned { Assigned f assigned.now }
-    requires centers_len { (length centers.old ≡ f.centers * f.w) × (length counts.old ≡ f.centers) }
-    ensures { let t = row_task f rows.now members.now residual.now in
+pub fn update_center(g: Given<'_>, assigned: &[u32], centers: &mut [f32], counts: &mut [u32])
+    requires framed { FramedGiven g }
+    requires assigned { Assigned g.frame assigned.now }
+    requires centers_len { (length centers.old ≡ g.frame.centers * g.frame.w) × (length counts.old ≡ g.frame.centers) }
+    ensures { let t = row_given g.entry in
         let to = assigned.now in
         (centers.new ≡ averages_of t to) × (counts.new ≡ counts_of t to) }
 {
-    lists::fill_floats(centers, 0.0);
-    lists::fill_numbers(counts, 0);
-    accumulate(f, rows, members, residual, assigned, centers, counts);
-    mean_centers(centers, f.w, counts);
+    lists::fill(centers, 0.0);
+    lists::fill(counts, 0);
+    accumulate(g, assigned, centers, counts);
+    mean_centers(centers, g.frame.w, counts);
 }
 
 // Whether all of centre i is finite.
@@ -111,15 +97,10 @@ pub fn finite_center(centers: &[f32], w: usize, i: usize) -> bool
     metrics::all_finite(c)
 }
 
-// The lowest of n centres that is not finite, or n: the test for 9.
-pub fn lowest_broken(centers: &[f32], w: usize, n: usize) -> usize
+// The lowest of n centres that is not finite, if there is one: the test for 9.
+pub fn lowest_broken(centers: &[f32], w: usize, n: usize) -> Option<usize>
     requires { length centers.now ≡ n * w }
     ensures { result ≡ lowest_broken centers.now w n }
 {
-    for i in 0..n {
-        if !finite_center(centers, w, i) {
-            return i;
-        }
-    }
-    n
+    (0..n).find(|i| !finite_center(centers, w, *i))
 }

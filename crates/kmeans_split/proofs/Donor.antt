@@ -1,18 +1,22 @@
 -- The donor walk goes round the centres, and the donor is another centre that has rows.
-use Prim.Native.Nat.{ℕ, ◌+◌, ◌*◌, ◌%◌, ◌<◌}
+use Prim.Native.Nat.{ℕ, ◌+◌, ◌-◌, ◌*◌, ◌%◌, ◌<◌}
 use mathlib.Core.Path.{◌≡◌, refl, sym, ◌∙◌}
 use mathlib.Core.List.{List}
 use mathlib.Core.Bool.{Bool, true, false, cond, true≢false}
 use native.Mathlib.Nat.{zero-mul, mod-lt, mul-pos, mod-add-mod}
 use native.Mathlib.Omega.{arith}
 use borrow.Author.Tests.{le-ltb, eqb-true, eqb-false}
-use lib.ListN.{get_or}
+use lib.ListN.{length, get_or, take, drop, length-take, length-drop}
+use Rattle.lists.specs.Lists.{part}
+use Rattle.lists.proofs.Parts.{get_or-part}
 use lib.Dec.{eqb}
 use lib.IntN.{ℤ, pos}
 use lib.Ieee.{Float, nan, inf, fin, binary64, up, down, unlike, lt, eq, le, div, round, of_int, of_bits}
 use lib.Ieee.Fits.{up_pos}
 use lib.Ieee.Scale.{round_same}
-use Rattle.lists.proofs.Tests.{and_l, first-hit}
+use Rattle.std.specs.Prelude.{Some}
+use Rattle.lists.proofs.Tests.{and_l}
+use Rattle.kmeans_average.proofs.Finite.{lowest-below, lowest-hit}
 use Rattle.kmeans_assign.specs.Task.{Task}
 use Rattle.kmeans_split.specs.Split.{walk_at, steps_of, draws_left, taken_at, NotNegative}
 use Rattle.kmeans_split.specs.SplitFacts.{DonorOf}
@@ -25,6 +29,18 @@ walk-next t i s a b e f =
 
 pub walk-below : (t : Task) (i s : ℕ) → i < t.centers → walk_at t i s < t.centers
 walk-below t i s h = mod-lt (i + 1 + s) (omega arith)
+
+-- the steps before the one that takes its donor are fewer than the draws that are left
+pub steps-below : (t : Task) (counts : List ℕ) (used i s : ℕ) → Some s ≡ steps_of t counts used i → s < draws_left t used
+steps-below t counts used i s e = lowest-below (taken_at t counts used i) (draws_left t used) s (sym e)
+
+-- the draws that are left, as a slice
+pub left-long : (draws : List Float) (used : ℕ) → length (take (length draws - used) (drop used draws)) ≡ length draws - used
+left-long draws used = simp (length-take, length-drop) (omega arith)
+
+pub left-at : (draws : List Float) (used s : ℕ) → s < length draws - used → get_or (take (length draws - used) (drop used draws)) s nan ≡ get_or draws (used + s) nan
+unfolding part
+left-at draws used s h = get_or-part draws used (length draws - used) s nan h
 
 -- a zero divided by a number is a zero
 round-zero : (s : Bool) (den : ℕ) → 0 < den → round binary64 s 0 den ≡ fin s 0 (pos 0)
@@ -76,9 +92,8 @@ taken-rows t counts used i s d h e z =
     true≢false (sym (rw z at e) ∙ not-below-share (get_or t.draws (used + s) nan) (of_int binary64 (pos t.n)) (d (used + s) (omega arith)))
 
 -- the donor of an empty centre, where the draws do not end first
-pub donor-rule : (t : Task) (counts : List ℕ) (used i : ℕ) → NotNegative t.draws → i < t.centers → get_or counts i 0 ≡ 0
-    → steps_of t counts used i < draws_left t used → DonorOf t counts i (walk_at t i (steps_of t counts used i))
-donor-rule t counts used i d h z l =
-    let s = steps_of t counts used i in
-    let rows = taken-rows t counts used i s d l (first-hit (taken_at t counts used i) (draws_left t used) l) in
+pub donor-rule : (t : Task) (counts : List ℕ) (used i s : ℕ) → NotNegative t.draws → i < t.centers → get_or counts i 0 ≡ 0
+    → Some s ≡ steps_of t counts used i → DonorOf t counts i (walk_at t i s)
+donor-rule t counts used i s d h z e =
+    let rows = taken-rows t counts used i s d (steps-below t counts used i s e) (lowest-hit (taken_at t counts used i) (draws_left t used) s (sym e)) in
     record { below = walk-below t i s h; other = λ p. rows (rw p z); rows = rows }

@@ -1,9 +1,8 @@
 -- What one k-means has reached, and how it goes on from there.
-use Rattle.std.specs.Prelude.{ℕ, ◌≡◌, List, Float}
-use Rattle.answers.specs.declared.Clustered.{Clustered}
-use Rattle.answers.specs.declared.Clustered.TheVariants.{Done, OutOfDraws, NotFinite}
+use Rattle.std.specs.Prelude.{ℕ, ◌≡◌, List, Ok, Err, Float}
+use Rattle.answers.specs.declared.Unclustered.{Unclustered}
 use Rattle.answers.specs.declared.Stage.{Stage}
-use Rattle.answers.specs.Answers.{cluster_said}
+use Rattle.answers.specs.Answers.{Clustered, cluster_said}
 
 -- the answer so far, the centres, the centre of each row, the rows of each centre
 pub record Run : Type 0 where
@@ -21,14 +20,13 @@ abbrev pub run_with : Clustered → List Float → List ℕ → List ℕ → Run
 run_with answer centers counts to = run_of answer centers to counts
 
 -- a run that ends here, with a refusal
-abbrev pub refused_with : Clustered → Run → Run
-refused_with c r = record { answer = c; centers = r.centers; assigned = r.assigned; counts = r.counts }
+abbrev pub refused_with : Unclustered → Run → Run
+refused_with why r = record { answer = Err why; centers = r.centers; assigned = r.assigned; counts = r.counts }
 
 -- what comes next, from the draws used so far, unless there is a refusal already
 abbrev pub onward_by : Clustered → Run → (ℕ → Run) → Run
-onward_by (Done used) r next = next used
-onward_by (OutOfDraws epoch center) r next = r
-onward_by (NotFinite step epoch center) r next = r
+onward_by (Ok used) r next = next used
+onward_by (Err why) r next = r
 
 abbrev pub onward : Run → (ℕ → Run) → Run
 onward r next = onward_by r.answer r next

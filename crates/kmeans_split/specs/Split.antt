@@ -1,15 +1,14 @@
 -- k-means' step 5: split.
-use Rattle.std.specs.Prelude.{ℕ, zero, suc, ◌+◌, ◌*◌, ◌-◌, ◌/◌, ◌%◌, ◌≤◌, ◌<◌, ◌≡◌, List, [], Bool, true, cond, ◌&&◌, length, get_or, set, eqb, ltb, pos, Float}
+use Rattle.std.specs.Prelude.{ℕ, zero, suc, ◌+◌, ◌*◌, ◌-◌, ◌/◌, ◌%◌, ◌≤◌, ◌<◌, ◌≡◌, List, [], Bool, true, cond, ◌&&◌, Option, Some, None, Ok, Err, length, get_or, set, eqb, pos, Float}
 use Rattle.std.specs.Float.{nan, binary32, binary64}
 use Rattle.std.specs.Float.Ieee.{mul, div, lt, le, of_bits, of_int}
 use Rattle.lists.specs.Lists.{tab, put_part}
-use Rattle.lists.specs.Tests.{first}
 use Rattle.metrics.specs.Distance.{coordinate}
 use Rattle.answers.specs.declared.Step.TheVariants.{Splitting}
-use Rattle.answers.specs.declared.Clustered.TheVariants.{Done, OutOfDraws, NotFinite}
+use Rattle.answers.specs.declared.Unclustered.TheVariants.{OutOfDraws, NotFinite}
 use Rattle.kmeans_assign.specs.declared.Frame.{Frame}
 use Rattle.kmeans_assign.specs.Task.{Task, task_of}
-use Rattle.kmeans_average.specs.Finite.{finite_center}
+use Rattle.kmeans_average.specs.Finite.{finite_center, lowest}
 use Rattle.kmeans_split.specs.Run.{Run, refused_with, onward}
 
 -- count/n in f64
@@ -24,12 +23,12 @@ walk_at t i s = (i + 1 + s) % t.centers
 abbrev pub taken_at : Task → List ℕ → ℕ → ℕ → ℕ → Bool
 taken_at t counts used i s = lt (get_or t.draws (used + s) nan) (share_of t counts (walk_at t i s))
 
--- the draws that are left, and the steps before the one that takes its donor: as many as are left if none does
+-- the draws that are left, and the steps before the one that takes its donor, if one of these draws does
 abbrev pub draws_left : Task → ℕ → ℕ
 draws_left t used = length t.draws - used
 
-abbrev pub steps_of : Task → List ℕ → ℕ → ℕ → ℕ
-steps_of t counts used i = first (taken_at t counts used i) (draws_left t used)
+abbrev pub steps_of : Task → List ℕ → ℕ → ℕ → Option ℕ
+steps_of t counts used i = lowest (taken_at t counts used i) (draws_left t used)
 
 -- 1−1/1024 and 1+1/1024
 abbrev pub down32 : Float
@@ -58,18 +57,22 @@ unfoldable pub split_off : Task → ℕ → ℕ → ℕ → ℕ → Run → Run
 split_off t epoch i a used r =
     let cs = split_centers r.centers t.w i a in
     record {
-      answer = cond (finite_center cs t.w i && finite_center cs t.w a) (Done used) (NotFinite Splitting epoch i);
+      answer = cond (finite_center cs t.w i && finite_center cs t.w a) (Ok used) (Err (NotFinite Splitting epoch i));
       centers = cs;
       assigned = r.assigned;
       counts = split_counts r.counts i a;
     }
 
+-- what the steps of a donor walk lead to, or what comes where the draws end first
+abbrev pub walked : Option ℕ → (ℕ → Run) → Run → Run
+walked (Some s) taken out = taken s
+walked None taken out = out
+
 -- the empty centre i is filled, or the draws end first
 unfoldable pub fill_center : Task → ℕ → ℕ → ℕ → Run → Run
 fill_center t epoch i used r =
-    let s = steps_of t r.counts used i in
-    let split = split_off t epoch i (walk_at t i s) (used + s + 1) r in
-    cond (ltb s (draws_left t used)) split (refused_with (OutOfDraws epoch i) r)
+    let split = λ (s : ℕ). split_off t epoch i (walk_at t i s) (used + s + 1) r in
+    walked (steps_of t r.counts used i) split (refused_with (OutOfDraws epoch i) r)
 
 -- for each centre i rising, if its count is 0
 abbrev pub fill_if_empty : Task → ℕ → ℕ → Run → ℕ → Run
@@ -87,7 +90,7 @@ split_to t epoch r (suc i) =
 
 -- the k-means as splitting sees it: without its rows
 abbrev pub split_task : Frame → List Float → Task
-split_task f draws = task_of f [] [] [] 0 draws
+split_task f draws = task_of f [] None None 0 draws
 
 -- no lent draw is below 0
 abbrev pub NotNegative : List Float → Type 0

@@ -1,7 +1,6 @@
 -- What step 5 promises, in its own words: the counts, the draws used, the donor.
-use Rattle.std.specs.Prelude.{ℕ, ◌+◌, ◌≤◌, ◌<◌, ◌≡◌, List, [], ◌∷◌, length, get_or}
-use Rattle.answers.specs.declared.Clustered.{Clustered}
-use Rattle.answers.specs.declared.Clustered.TheVariants.{Done, OutOfDraws, NotFinite}
+use Rattle.std.specs.Prelude.{ℕ, ◌+◌, ◌≤◌, ◌<◌, ◌≡◌, List, [], ◌∷◌, Ok, Err, length, get_or}
+use Rattle.answers.specs.Answers.{Clustered}
 use Rattle.kmeans_assign.specs.Task.{Task}
 use Rattle.kmeans_split.specs.Run.{Run}
 
@@ -17,9 +16,8 @@ pub record Counted (t : Task) (r : Run) : Type 0 where
 
 -- the draws used are at least those used before and at most those lent
 abbrev pub Drawn : ℕ → ℕ → Clustered → Type 0
-Drawn before lent (Done used) = (before ≤ used) × (used ≤ lent)
-Drawn before lent (OutOfDraws epoch center) = Unit {0}
-Drawn before lent (NotFinite step epoch center) = Unit {0}
+Drawn before lent (Ok used) = (before ≤ used) × (used ≤ lent)
+Drawn before lent (Err why) = Unit {0}
 
 -- the donor a of centre i is a centre, another one, and has rows
 pub record DonorOf (t : Task) (counts : List ℕ) (i a : ℕ) : Type 0 where

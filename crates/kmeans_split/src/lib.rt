@@ -1,4 +1,5 @@
 // k-means' step 5: each empty centre is split off a donor that the draws choose.
+// What is written stays flat parameters: a struct of `&mut` would need a ghost name for each in every clause.
 #![tactic(auto)]
 
 ghost use Rattle.std.specs.Prelude.{◌≡◌, cond, List, [], ℕ, ◌+◌, ◌*◌, ◌%◌, ◌≤◌, ◌<◌, length, get_or, eqb, pos};
@@ -11,7 +12,7 @@ ghost use Rattle.kmeans_split.specs.Split.{down32, up32, got_at, split_centers, 
 ghost use Rattle.kmeans_split.specs.Split.{fill_center, fill_if_empty, split_to, split_task, Splittable};
 ghost use Rattle.kmeans_split.specs.SplitInner.{left_in};
 
-use answers::{Clustered, Step};
+use answers::{Step, Unclustered};
 use kmeans_assign::Frame;
 
 // What a centre and its split-off twin are moved apart by.
@@ -41,6 +42,7 @@ fn give(centers: &mut [f32], w: usize, i: usize, a: usize)
 {
     let to = i * w;
     let from = a * w;
+    // By index: two places of one slice are read and written.
     for j in 0..w {
         centers[to + j] = down_up(centers[from + j], j);
     }
@@ -50,8 +52,8 @@ fn give(centers: &mut [f32], w: usize, i: usize, a: usize)
 fn keep_rest(center: &mut [f32])
     ensures { center.new ≡ tab (left_in center.old) (length center.old) }
 {
-    for j in 0..center.len() {
-        center[j] = up_down(center[j], j);
+    for (j, coordinate) in center.iter_mut().enumerate() {
+        *coordinate = up_down(*coordinate, j);
     }
 }
 
@@ -67,6 +69,7 @@ fn split_coordinates(centers: &mut [f32], w: usize, i: usize, a: usize)
 }
 
 // Half of the donor's rows go to centre i, and it keeps the rest.
+#[tactic(auto, unfolding(crate::specs::Split::split_counts))]
 fn split_count(counts: &mut [u32], i: usize, a: usize)
     requires { (i < length counts.old) × (a < length counts.old) }
     ensures { counts.new ≡ split_counts counts.old i a }
@@ -91,20 +94,19 @@ fn share(count: u32, n: u32) -> f64
     (count as f64) / (n as f64)
 }
 
-// The steps of the donor walk of centre i before the one that takes its donor, or the draws that are left if none does.
-fn steps(f: Frame, draws: &[f64], used: usize, counts: &[u32], i: usize) -> usize
+// The steps of the donor walk of centre i before the one that takes its donor, if one of the draws that are left does.
+fn steps(f: Frame, draws: &[f64], used: usize, counts: &[u32], i: usize) -> Option<usize>
     requires { (f.n ≤ 100_001) × (length counts.now ≡ f.centers) × (i < f.centers) × (used ≤ length draws.now) }
     ensures { result ≡ steps_of (split_task f draws.now) counts.now used i }
 {
-    let left = draws.len() - used;
     let mut a = next_center(i, f.centers);
-    for s in 0..left {
-        if draws[used + s] < share(counts[a], f.n as u32) {
-            return s;
+    for (s, draw) in draws[used..].iter().enumerate() {
+        if *draw < share(counts[a], f.n as u32) {
+            return Some(s);
         }
         a = next_center(a, f.centers);
     }
-    left
+    None
 }
 
 // Centre i is split off the donor a; both are tested for 9.
@@ -116,10 +118,10 @@ fn split_off(
     used: usize,
     centers: &mut [f32],
     counts: &mut [u32],
-) -> Clustered
+) -> Result<usize, Unclustered>
     requires { (f.centers ≤ 1024) × (i < f.centers) × (a < f.centers) × (a ≡ i → ⊥)
         × (length centers.old ≡ f.centers * f.w) × (length counts.old ≡ f.centers) }
-    ensures { let before = run_with (Clustered.Done used) centers.old counts.old in
+    ensures { let before = run_with (Ok used) centers.old counts.old in
         let after = run_with result centers.new counts.new in
         ((to : List ℕ) → after to ≡ split_off (split_task f []) epoch i a used (before to)) }
 {
@@ -128,13 +130,13 @@ fn split_off(
     let kept = kmeans_average::finite_center(centers, f.w, a);
     let got = kmeans_average::finite_center(centers, f.w, i);
     if got & kept {
-        Clustered::Done(used)
+        Ok(used)
     } else {
-        Clustered::NotFinite {
+        Err(Unclustered::NotFinite {
             step: Step::Splitting,
             epoch,
             center: i as u32,
-        }
+        })
     }
 }
 
@@ -147,24 +149,22 @@ fn fill_center(
     i: usize,
     centers: &mut [f32],
     counts: &mut [u32],
-) -> Clustered
+) -> Result<usize, Unclustered>
     requires splittable { Splittable f draws.now used centers.old counts.old }
     requires i_lt_centers { (i < f.centers) × (get_or counts.old i 0 ≡ 0) }
-    ensures { let before = run_with (Clustered.Done used) centers.old counts.old in
+    ensures { let before = run_with (Ok used) centers.old counts.old in
         let after = run_with result centers.new counts.new in
         let t = split_task f draws.now in
         ((to : List ℕ) → after to ≡ fill_center t epoch i used (before to)) }
 {
-    let s = steps(f, draws, used, counts, i);
-    if s < draws.len() - used {
-        let a = (i + 1 + s) % f.centers;
-        split_off(f, epoch, i, a, used + s + 1, centers, counts)
-    } else {
-        Clustered::OutOfDraws {
+    let Some(s) = steps(f, draws, used, counts, i) else {
+        return Err(Unclustered::OutOfDraws {
             epoch,
             center: i as u32,
-        }
-    }
+        });
+    };
+    let a = (i + 1 + s) % f.centers;
+    split_off(f, epoch, i, a, used + s + 1, centers, counts)
 }
 
 // Centre i is filled if it is empty.
@@ -176,10 +176,10 @@ fn fill_if_empty(
     i: usize,
     centers: &mut [f32],
     counts: &mut [u32],
-) -> Clustered
+) -> Result<usize, Unclustered>
     requires splittable { Splittable f draws.now used centers.old counts.old }
     requires i_lt_centers { i < f.centers }
-    ensures { let before = run_with (Clustered.Done used) centers.old counts.old in
+    ensures { let before = run_with (Ok used) centers.old counts.old in
         let after = run_with result centers.new counts.new in
         let t = split_task f draws.now in
         ((to : List ℕ) → after to ≡ fill_if_empty t epoch i (before to) used) }
@@ -187,7 +187,7 @@ fn fill_if_empty(
     if counts[i] == 0 {
         fill_center(f, draws, used, epoch, i, centers, counts)
     } else {
-        Clustered::Done(used)
+        Ok(used)
     }
 }
 
@@ -199,20 +199,16 @@ pub fn split_center(
     epoch: u32,
     centers: &mut [f32],
     counts: &mut [u32],
-) -> Clustered
+) -> Result<usize, Unclustered>
     requires { Splittable f draws.now used centers.old counts.old }
-    ensures { let before = run_with (Clustered.Done used) centers.old counts.old in
+    ensures { let before = run_with (Ok used) centers.old counts.old in
         let after = run_with result centers.new counts.new in
         let t = split_task f draws.now in
         ((to : List ℕ) → Reached (after to) (split_to t epoch (before to) f.centers)) }
 {
     let mut at = used;
     for i in 0..f.centers {
-        let c = fill_if_empty(f, draws, at, epoch, i, centers, counts);
-        let Clustered::Done(next) = c else {
-            return c;
-        };
-        at = next;
+        at = fill_if_empty(f, draws, at, epoch, i, centers, counts)?;
     }
-    Clustered::Done(at)
+    Ok(at)
 }

@@ -1,20 +1,20 @@
 -- Step 1: sums of one more row, means of all rows, and the start from the means.
-use Rattle.std.proofs.Common.{◌≡◌, ℕ, ◌+◌, ◌<◌, Bool, List, length, get_or, refl, ◌∙◌, add-one, arith, ne_eqb}
+use Rattle.std.proofs.Common.{◌≡◌, ℕ, ◌+◌, ◌<◌, List, Option, length, get_or, refl, ◌∙◌, add-one, arith, ne_eqb}
 use lib.Ieee.{Float, nan}
 use Rattle.lists.specs.Lists.{tab, grid}
 use Rattle.lists.proofs.Tables.{length-tab, tab-ext, get_or-tab}
 use Rattle.lists.proofs.Joins.{grid-ext}
 use Rattle.metrics.specs.Distance.{value_in, sum_to}
-use Rattle.kmeans_assign.specs.declared.Frame.{Frame}
-use Rattle.kmeans_assign.specs.Task.{task_of, row_task, Task}
+use Rattle.kmeans_assign.specs.declared.Given.{Given}
+use Rattle.kmeans_assign.specs.Task.{task_given, row_given, Task}
 use Rattle.kmeans_start.specs.Start.{mean_of, started, start_at, mean_at}
 use Rattle.kmeans_start.specs.StartInner.{added_at, column_sum, mean_in, means_of, start_from}
 
 -- the sums of one more row
-pub column-step : (t : Task) (k w : ℕ) (sums x r : List Float) (has : Bool) → sums ≡ tab (column_sum t k) w → ((j : ℕ) → j < w → value_in has x r j ≡ t.value k j)
-    → tab (added_at sums has x r) (length sums) ≡ tab (column_sum t (k + 1)) w
+pub column-step : (t : Task) (k w : ℕ) (sums x : List Float) (r : Option (List Float)) → sums ≡ tab (column_sum t k) w → ((j : ℕ) → j < w → value_in r x j ≡ t.value k j)
+    → tab (added_at sums r x) (length sums) ≡ tab (column_sum t (k + 1)) w
 unfolding sum_to
-column-step t k w sums x r has e f =
+column-step t k w sums x r e f =
     rw (e, length-tab) (tab-ext _ _ w (λ j h. rw (get_or-tab (column_sum t k) w j nan h, f j h, add-one)))
 
 -- the means of the sums of all rows
@@ -32,11 +32,9 @@ start-mean t mean h e =
     in rw z)
 
 -- the start looks at no draws
-start-same : (f : Frame) (rows : List Float) (members : List ℕ) (residual draws : List Float) (epochs i j : ℕ)
-    → start_at (row_task f rows members residual) i j ≡ start_at (task_of f rows members residual epochs draws) i j
+start-same : (g : Given) (draws : List Float) (epochs i j : ℕ) → start_at (row_given g) i j ≡ start_at (task_given g epochs draws) i j
 unfolding start_at mean_at
-start-same f rows members residual draws epochs i j = refl
+start-same g draws epochs i j = refl
 
-pub started-same : (f : Frame) (rows : List Float) (members : List ℕ) (residual draws : List Float) (epochs : ℕ)
-    → started (row_task f rows members residual) ≡ started (task_of f rows members residual epochs draws)
-started-same f rows members residual draws epochs = grid-ext _ _ f.centers f.w (λ i h j l. start-same f rows members residual draws epochs i j)
+pub started-same : (g : Given) (draws : List Float) (epochs : ℕ) → started (row_given g) ≡ started (task_given g epochs draws)
+started-same g draws epochs = grid-ext _ _ g.frame.centers g.frame.w (λ i h j l. start-same g draws epochs i j)

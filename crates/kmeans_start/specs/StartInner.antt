@@ -1,5 +1,5 @@
 -- What the inner functions of step 1 leave in the slices that they are lent.
-use Rattle.std.specs.Prelude.{ℕ, Bool, cond, List, slice_index_or, Float}
+use Rattle.std.specs.Prelude.{ℕ, cond, List, Option, slice_index_or, Float}
 use Rattle.std.specs.Float.{nan, binary32}
 use Rattle.std.specs.Float.Ieee.{add, sub}
 use Rattle.lists.specs.Lists.{tab}
@@ -8,8 +8,8 @@ use Rattle.kmeans_assign.specs.Task.{Task}
 use Rattle.kmeans_start.specs.Start.{column, mean_of, raised, one32}
 
 -- sums with the values of one more row
-abbrev pub added_at : List Float → Bool → List Float → List Float → ℕ → Float
-added_at sums has x r j = add binary32 (slice_index_or sums j nan) (value_in has x r j)
+abbrev pub added_at : List Float → Option (List Float) → List Float → ℕ → Float
+added_at sums r x j = add binary32 (slice_index_or sums j nan) (value_in r x j)
 
 -- the sums of the first k rows
 abbrev pub column_sum : Task → ℕ → ℕ → Float

@@ -1,42 +1,43 @@
 // k-means' step 1: every centre is the mean of the rows, moved by one up or down.
 #![tactic(auto)]
 
-ghost use Rattle.std.specs.Prelude.{◌≡◌, ◌+◌, ◌*◌, ◌≤◌, length, if◌then◌else◌};
+ghost use Rattle.std.specs.Prelude.{◌≡◌, ◌+◌, ◌*◌, ◌≤◌, length, if◌then◌else◌, IfSome, option_copied};
 ghost use Rattle.std.specs.Float.Ieee.{add, sub};
 ghost use Rattle.std.specs.Float.{binary32};
 ghost use Rattle.lists.specs.Lists.{tab, fill, put_part, grid};
 ghost use Rattle.metrics.specs.Distance.{zero32};
-ghost use Rattle.kmeans_assign.specs.Task.{Framed, row_task};
+ghost use Rattle.kmeans_assign.specs.Task.{FramedGiven, row_given};
 ghost use Rattle.kmeans_start.specs.Start.{started, raised, one32, mean_of};
 ghost use Rattle.kmeans_start.specs.StartInner.{added_at, column_sum, mean_in, means_of, start_from};
 
-use kmeans_assign::Frame;
+use kmeans_assign::Given;
 
-// The values of x are added to the sums.
-pub fn add_into(sums: &mut [f32], x: &[f32], residual: &[f32], has: bool)
-    requires { (length x.now ≡ length sums.old) × (length residual.now ≡ length sums.old) }
+// The values of x are added to the sums. By the sums' places, since the residual may not be there.
+pub fn add_into(sums: &mut [f32], x: &[f32], residual: Option<&[f32]>)
+    requires x_len { length x.now ≡ length sums.old }
+    requires residual_len { IfSome residual (λ r. length r.now ≡ length sums.old) }
     ensures { let s = sums.old in
-        sums.new ≡ tab (added_at s has x.now residual.now) (length s) }
+        sums.new ≡ tab (added_at s (option_copied residual.entry) x.now) (length s) }
 {
-    for j in 0..sums.len() {
-        sums[j] = sums[j] + metrics::value(x[j], residual[j], has);
+    for (j, sum) in sums.iter_mut().enumerate() {
+        *sum += metrics::value(x[j], metrics::residual_at(residual, j));
     }
 }
 
 // The sums of all rows, in row order from +0.0.
-fn sum_rows(f: Frame, rows: &[f32], members: &[u32], residual: &[f32], sums: &mut [f32])
-    requires framed { Framed f rows.now members.now residual.now }
-    requires sums_value { sums.old ≡ fill zero32 f.w }
-    ensures { let t = row_task f rows.now members.now residual.now in
-        sums.new ≡ tab (column_sum t f.n) f.w }
+fn sum_rows(g: Given<'_>, sums: &mut [f32])
+    requires framed { FramedGiven g }
+    requires sums_value { sums.old ≡ fill zero32 g.frame.w }
+    ensures { let t = row_given g.entry in
+        sums.new ≡ tab (column_sum t t.n) t.w }
 {
-    for k in 0..f.n {
-        let x = kmeans_assign::row_range(f, rows, members, k);
-        add_into(sums, x, residual, f.has);
+    for k in 0..g.frame.n {
+        add_into(sums, g.row_range(k), g.residual);
     }
 }
 
 // The mean of a number of rows; that of none is +0.0.
+#[tactic(auto, unfolding(crate::specs::Start::mean_of))]
 fn mean(sum: f32, rows: u32) -> f32
     ensures { result ≡ mean_of rows sum }
 {
@@ -51,8 +52,8 @@ fn mean(sum: f32, rows: u32) -> f32
 pub fn mean_into(sums: &mut [f32], rows: u32)
     ensures { sums.new ≡ tab (mean_in sums.old rows) (length sums.old) }
 {
-    for j in 0..sums.len() {
-        sums[j] = mean(sums[j], rows);
+    for sum in sums {
+        *sum = mean(*sum, rows);
     }
 }
 
@@ -67,17 +68,18 @@ fn shifted(mean: f32, i: usize, j: usize) -> f32
     }
 }
 
-// One centre of the start, from the mean.
+// One centre of the start, from the mean. By place, which the shift goes by too.
 fn start_into(center: &mut [f32], mean: &[f32], i: usize)
     requires { length mean.now ≡ length center.old }
     ensures { center.new ≡ tab (start_from mean.now i) (length center.old) }
 {
-    for j in 0..center.len() {
-        center[j] = shifted(mean[j], i, j);
+    for (j, coordinate) in center.iter_mut().enumerate() {
+        *coordinate = shifted(mean[j], i, j);
     }
 }
 
 // Centre i of the start, in its stretch of the centres.
+#[tactic(auto, unfolding(lists::specs::Lists::put_part))]
 fn start_center(centers: &mut [f32], mean: &[f32], i: usize)
     requires { i * length mean.now + length mean.now ≤ length centers.old }
     ensures { let m = mean.now in
@@ -89,7 +91,7 @@ fn start_center(centers: &mut [f32], mean: &[f32], i: usize)
     start_into(&mut centers[a..e], mean, i);
 }
 
-// All centres of the start, from the mean.
+// All centres of the start, from the mean. By number: a stretch may have no coordinates, and chunks may not.
 fn start_centers(centers: &mut [f32], mean: &[f32], n: usize)
     requires { length centers.old ≡ n * length mean.now }
     ensures { centers.new ≡ grid (start_from mean.now) n (length mean.now) }
@@ -100,32 +102,24 @@ fn start_centers(centers: &mut [f32], mean: &[f32], n: usize)
 }
 
 // The mean of the rows, and from it all centres of the start.
-fn start_from(
-    f: Frame,
-    rows: &[f32],
-    members: &[u32],
-    residual: &[f32],
-    mean: &mut [f32],
-    centers: &mut [f32],
-)
-    requires framed { Framed f rows.now members.now residual.now }
-    requires mean_value { (mean.old ≡ fill zero32 f.w) × (length centers.old ≡ f.centers * f.w) }
-    ensures { let t = row_task f rows.now members.now residual.now in
+fn start_from(g: Given<'_>, mean: &mut [f32], centers: &mut [f32])
+    requires framed { FramedGiven g }
+    requires mean_value { (mean.old ≡ fill zero32 g.frame.w) × (length centers.old ≡ g.frame.centers * g.frame.w) }
+    ensures { let t = row_given g.entry in
         (mean.new ≡ means_of t) × (centers.new ≡ started t) }
 {
-    sum_rows(f, rows, members, residual, mean);
-    mean_into(mean, f.n as u32);
-    start_centers(centers, mean, f.centers);
+    sum_rows(g, mean);
+    mean_into(mean, g.frame.n as u32);
+    start_centers(centers, mean, g.frame.centers);
 }
 
 // Step 1: every centre is the mean of the rows, moved by one up or down.
-pub fn init_center(f: Frame, rows: &[f32], members: &[u32], residual: &[f32], centers: &mut [f32])
-    requires framed { Framed f rows.now members.now residual.now }
-    requires centers_len { length centers.old ≡ f.centers * f.w }
-    ensures { let t = row_task f rows.now members.now residual.now in
-        centers.new ≡ started t }
+pub fn init_center(g: Given<'_>, centers: &mut [f32])
+    requires framed { FramedGiven g }
+    requires centers_len { length centers.old ≡ g.frame.centers * g.frame.w }
+    ensures { centers.new ≡ started (row_given g.entry) }
 {
     let mut mean = [0.0f32; 256];
-    let w = f.w;
-    start_from(f, rows, members, residual, &mut mean[..w], centers);
+    let w = g.frame.w;
+    start_from(g, &mut mean[..w], centers);
 }

@@ -11,16 +11,23 @@ bits_of x = cond (finite x) (to_bits binary32 x) 0xffff_ffff
 abbrev pub in_list {ℓ} : {A : Type ℓ} → List A → A → ℕ → A
 in_list list rest j = get_or list j rest
 
--- place j of s beside place j of the list
-abbrev pub same_float : List Float → List Float → Float → ℕ → Bool
-same_float s list rest j = eqb (bits_of (get_or s j nan)) (bits_of (in_list list rest j))
-
-abbrev pub same_number : List ℕ → List ℕ → ℕ → ℕ → Bool
-same_number s list rest j = eqb (get_or s j 0) (in_list list rest j)
+-- place j of s beside place j of the list, each by its word
+abbrev pub same_at {ℓ} : {A : Type ℓ} → (A → ℕ) → A → List A → List A → A → ℕ → Bool
+same_at word none s list rest j = eqb (word (get_or s j none)) (word (in_list list rest j))
 
 -- place j of s beside one value
+abbrev pub is_at {ℓ} : {A : Type ℓ} → (A → ℕ) → A → List A → A → ℕ → Bool
+is_at word none s v j = eqb (word (get_or s j none)) (word v)
+
+-- the same of floats, by their bits, and of numbers and bytes
+abbrev pub same_float : List Float → List Float → Float → ℕ → Bool
+same_float = same_at bits_of nan
+
+abbrev pub same_number : List ℕ → List ℕ → ℕ → ℕ → Bool
+same_number = same_at (λ x. x) 0
+
 abbrev pub is_float : List Float → Float → ℕ → Bool
-is_float s v j = eqb (bits_of (get_or s j nan)) (bits_of v)
+is_float = is_at bits_of nan
 
 abbrev pub is_number : List ℕ → ℕ → ℕ → Bool
-is_number s v j = eqb (get_or s j 0) v
+is_number = is_at (λ x. x) 0

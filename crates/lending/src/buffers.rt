@@ -1,7 +1,5 @@
 // Buffers for the largest file, and for the largest case and example of any program, each full of one value. Each promises its length
 // beside what it holds, so that lending it asks for no proof.
-ghost use Rattle.std.specs.Float.{binary64};
-ghost use Rattle.std.specs.Float.Ieee.{of_bits};
 ghost use Rattle.lending.specs.Filled.{Filled};
 
 // What stands in a buffer of floats that nobody wrote.
@@ -13,37 +11,21 @@ pub const DIRTY_NUMBER: u32 = 3_735_928_559;
 // What stands in a buffer of bytes that nobody wrote.
 pub const DIRTY_BYTE: u8 = 165;
 
-// Zeros for a file.
-pub fn file() -> [u8; 2_097_152]
-    ensures { Filled 2_097_152 0 result }
-{
-    [0; 2_097_152]
-}
+// The bytes of the largest file.
+pub const FILE: usize = 2_097_152;
 
-// Zeros for the draws.
-pub fn draws() -> [f64; 20_000]
-    ensures { Filled 20_000 (of_bits binary64 0) result }
-{
-    [0.0; 20_000]
-}
+// The draws of the largest case.
+pub const DRAWS: usize = 20_000;
 
-// Floats, as many as 100,002 rows of one coordinate have.
-pub fn floats(v: f32) -> [f32; 100_002]
-    ensures { Filled 100_002 v result }
-{
-    [v; 100_002]
-}
+// As many floats as 100,002 rows of one coordinate have, and as many bytes as their mask.
+pub const ROWS: usize = 100_002;
 
-// Numbers, as many as work has with 100,002 rows.
-pub fn numbers(v: u32) -> [u32; 101_026]
-    ensures { Filled 101_026 v result }
-{
-    [v; 101_026]
-}
+// As many numbers as work has with 100,002 rows.
+pub const WORK: usize = 101_026;
 
-// Bytes, as many as a mask of 100,002 rows has.
-pub fn bytes(v: u8) -> [u8; 100_002]
-    ensures { Filled 100_002 v result }
+// A buffer that is full of one value.
+pub fn filled<T: Copy, const N: usize>(v: T) -> [T; N]
+    ensures { Filled N v result }
 {
-    [v; 100_002]
+    [v; N]
 }

@@ -14,6 +14,7 @@ pub fn read_full<R: Read>(r: &mut R, out: &mut [u8]) -> io::Result<usize>
     ensures failed { OnErr result (GaveFront (R.remaining r.old) (R.remaining r.new) out.new) }
 {
     let mut done = 0;
+    // How many bytes a read gives is the reader's to say, so no `for` fits.
     while done < out.len() {
         match r.read(&mut out[done..]) {
             Ok(0) => break,

@@ -9,13 +9,14 @@ use std::io;
 use std::io::{ErrorKind, Write};
 
 // The cases so far, and those of them that agree.
-#[derive(Clone, Copy)]
+#[derive(Clone, Copy, Debug, Default, PartialEq, Eq)]
 pub struct Tally {
     pub agree: u64,
     pub of: u64,
 }
 
 // One more; no count comes near the bound.
+#[tactic(auto, unfolding(crate::specs::Tally::more_of))]
 fn more(x: u64) -> u64
     ensures { result ≡ more_of x }
 {
@@ -23,23 +24,18 @@ fn more(x: u64) -> u64
 }
 
 // One more case.
+#[tactic(auto, unfolding(crate::specs::Tally::counted_of))]
 pub fn counted(t: Tally, agrees: bool) -> Tally
     ensures { result ≡ counted_of t agrees }
 {
-    if agrees {
-        Tally {
-            agree: more(t.agree),
-            of: more(t.of),
-        }
-    } else {
-        Tally {
-            agree: t.agree,
-            of: more(t.of),
-        }
+    let agree = if agrees { more(t.agree) } else { t.agree };
+    Tally {
+        agree,
+        of: more(t.of),
     }
 }
 
-// Words to a writer, all of them: where it takes some, it is given the others.
+// Words to a writer, all of them: where it takes some, it is given the others. Not by `write_all`, which says nothing of what an error leaves.
 fn say<W: Write>(out: &mut W, words: &[u8]) -> io::Result<()>
     ensures said { OnOk result (Appends (W.contents out.old) (W.contents out.new) words.now) }
     ensures failed { OnErr result (AppendsFront (W.contents out.old) (W.contents out.new) words.now) }

@@ -1,9 +1,14 @@
 -- Flat lent buffers: a part of a list, and lists given by their elements.
-use Rattle.std.specs.Prelude.{ℕ, zero, suc, List, [], ◌∷◌, ◌++◌, Bool, cond, take, drop, length, get_or, ◌≡◌}
+use Rattle.std.specs.Prelude.{ℕ, zero, suc, List, [], ◌∷◌, ◌++◌, Option, Some, None, take, drop, length, get_or, ◌≡◌}
 
 -- the w elements of s from place a on
 unfoldable pub part {ℓ} : {A : Type ℓ} → List A → ℕ → ℕ → List A
 part s a w = take w (drop a s)
+
+-- the same of a list that may not be there
+abbrev pub part_if : {A : Type 0} → Option (List A) → ℕ → ℕ → Option (List A)
+part_if (Some s) a w = Some (part s a w)
+part_if None a w = None
 
 -- the list s, with p in the place of the w elements from a on
 unfoldable pub put_part {ℓ} : {A : Type ℓ} → List A → ℕ → ℕ → List A → List A
@@ -35,6 +40,7 @@ pub record Part {ℓ} {A : Type ℓ} (s : List A) (a w : ℕ) (r : List A) : Typ
   pub is : r ≡ part s a w
   pub long : length r ≡ w
 
--- the row number of the k-th row: from the list, or k itself
-abbrev pub member_of : Bool → List ℕ → ℕ → ℕ
-member_of listed members k = cond listed (get_or members k 0) k
+-- the row number of the k-th row: from the list, or k itself where there is none
+abbrev pub member_of : Option (List ℕ) → ℕ → ℕ
+member_of (Some members) k = get_or members k 0
+member_of None k = k

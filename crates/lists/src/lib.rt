@@ -1,8 +1,8 @@
 // Flat lent buffers: a part of one, and fills. Vectors of vectors are flat here, and a row, a centre or a code is a part at an offset.
 #![tactic(auto)]
 
-ghost use Rattle.std.specs.Prelude.{◌≡◌, true, ◌+◌, ◌*◌, ◌≤◌, ◌<◌, min, length};
-ghost use Rattle.lists.specs.Lists.{Part, fill, member_of};
+ghost use Rattle.std.specs.Prelude.{◌≡◌, ◌+◌, ◌*◌, ◌≤◌, ◌<◌, min, length, IfSome, option_copied};
+ghost use Rattle.lists.specs.Lists.{Part, part_if, fill, member_of};
 
 // The w elements from place a on.
 pub fn part(s: &[f32], a: usize, w: usize) -> &[f32]
@@ -21,6 +21,18 @@ pub fn stretch(s: &[f32], i: usize, w: usize) -> &[f32]
     part(s, i * w, w)
 }
 
+// The w elements of a slice from place a on, if there is a slice.
+pub fn part_if<'a>(s: Option<&'a [f32]>, a: usize, w: usize) -> Option<&'a [f32]>
+    requires { IfSome s (λ s. a + w ≤ length s.now) }
+    ensures is { option_copied result ≡ part_if (option_copied s.entry) a w }
+    ensures long { IfSome result (λ r. length r.now ≡ w) }
+{
+    match s {
+        Some(s) => Some(part(s, a, w)),
+        None => None,
+    }
+}
+
 // A row number as an index.
 pub fn wide(x: u32) -> usize
     ensures { result ≡ x }
@@ -28,7 +40,7 @@ pub fn wide(x: u32) -> usize
     x as usize
 }
 
-// A code as an index.
+// A code as an index. Beside `wide`, since no trait makes both a u8 and a u32 a usize, and each is one cast.
 pub fn wide_byte(x: u8) -> usize
     ensures { result ≡ x }
 {
@@ -39,40 +51,25 @@ pub fn wide_byte(x: u8) -> usize
 pub fn least(a: usize, b: usize) -> usize
     ensures { result ≡ min a b }
 {
-    if a < b { a } else { b }
+    a.min(b)
 }
 
-// The row number of the k-th row: from the list, or k itself.
-pub fn row_number(listed: bool, members: &[u32], k: usize) -> usize
-    requires { listed ≡ true → k < length members.now }
-    ensures { result ≡ member_of listed members.now k }
+// The row number of the k-th row: from the list, or k itself where there is none.
+pub fn row_number(members: Option<&[u32]>, k: usize) -> usize
+    requires { IfSome members (λ m. k < length m.now) }
+    ensures { result ≡ member_of (option_copied members.entry) k }
 {
-    if listed { wide(members[k]) } else { k }
-}
-
-// Every coordinate becomes v.
-pub fn fill_floats(s: &mut [f32], v: f32)
-    ensures { s.new ≡ fill v (length s.old) }
-{
-    for i in 0..s.len() {
-        s[i] = v;
+    match members {
+        Some(list) => wide(list[k]),
+        None => k,
     }
 }
 
-// Every number becomes v.
-pub fn fill_numbers(s: &mut [u32], v: u32)
+// Every element becomes v. Not by the slice's own `fill`, which clones v and so asks what a clone is.
+pub fn fill<T: Copy>(s: &mut [T], v: T)
     ensures { s.new ≡ fill v (length s.old) }
 {
-    for i in 0..s.len() {
-        s[i] = v;
-    }
-}
-
-// Every byte becomes v.
-pub fn fill_bytes(s: &mut [u8], v: u8)
-    ensures { s.new ≡ fill v (length s.old) }
-{
-    for i in 0..s.len() {
-        s[i] = v;
+    for x in s {
+        *x = v;
     }
 }

@@ -1,5 +1,5 @@
 -- Laws on sums, distances and marks.
-use Prim.Native.Nat.{ℕ, zero, suc, ◌*◌, ◌<◌}
+use Prim.Native.Nat.{ℕ, zero, suc, ◌+◌, ◌*◌, ◌<◌}
 use mathlib.Core.Path.{◌≡◌, refl, sym, ap, ap₂}
 use mathlib.Core.Bool.{Bool, true, false}
 use mathlib.Core.List.{List}
@@ -12,10 +12,10 @@ use lib.IntN.{ℤ}
 use lib.Ieee.{Float, nan, inf, fin, binary32, add, sub, eq, neg, of_bits, round, up, down}
 use lib.Ieee.Fits.{down_pos}
 use lib.Ieee.Scale.{finite, round_same}
-use Rattle.lists.specs.Lists.{Part}
+use Rattle.lists.specs.Lists.{part_if, Part}
 use Rattle.lists.proofs.Parts.{get_or-part}
-use Rattle.metrics.specs.Distance.{sum_to, coordinate_in, coordinate, term_at, squared, worked, distance}
-use Rattle.metrics.specs.declared.Worked.TheVariants.{Finite, NotFinite}
+use Rattle.metrics.specs.Distance.{residual_at, sum_to, coordinate_in, coordinate, term_at, squared, worked, distance}
+use Rattle.std.specs.Prelude.{Option, Some, None}
 
 pub sum-ext : (f g : ℕ → Float) (n : ℕ) → ((j : ℕ) → j < n → f j ≡ g j) → sum_to f n ≡ sum_to g n
 unfolding sum_to
@@ -32,34 +32,39 @@ pub stretch-distance : (x : ℕ → Float) (cs c : List Float) (i w : ℕ) → P
 stretch-distance x cs c i w p =
     rw p.long (ap worked (squared-ext x x (coordinate_in c) (coordinate cs w i) w (λ j h. refl) (λ j h. rw p.is (get_or-part cs (i * w) w j nan h))))
 
+-- a part of a residual gives the residual's coordinates
+pub residual-part : (residual : Option (List Float)) (a w j : ℕ) → j < w → residual_at (part_if residual a w) j ≡ residual_at residual (a + j)
+residual-part None a w j h = refl
+residual-part (Some c) a w j h = ap Some (get_or-part c a w j nan h)
+
 -- a mark is what is not finite
-pub worked-finite : (x : Float) → finite x ≡ true → Finite x ≡ worked x
+pub worked-finite : (x : Float) → finite x ≡ true → Some x ≡ worked x
 unfolding worked
 worked-finite nan e = cc
 worked-finite (inf s) e = cc
 worked-finite (fin s m e) h = refl
 
-pub worked_not : (x : Float) → finite x ≡ false → NotFinite ≡ worked x
+pub worked_not : (x : Float) → finite x ≡ false → None ≡ worked x
 unfolding worked
 worked_not nan e = refl
 worked_not (inf s) e = refl
 worked_not (fin s m e) h = cc
 
 -- what is marked is not finite
-pub marked : (x : Float) → worked x ≡ NotFinite → finite x ≡ false
+pub marked : (x : Float) → worked x ≡ None → finite x ≡ false
 unfolding worked
 marked nan e = refl
 marked (inf s) e = refl
 marked (fin s m k) e = cc
 
 -- what is not marked is finite, and is what the answer carries
-pub unmarked : (x v : Float) → worked x ≡ Finite v → finite x ≡ true
+pub unmarked : (x v : Float) → worked x ≡ Some v → finite x ≡ true
 unfolding worked
 unmarked nan v e = cc
 unmarked (inf s) v e = cc
 unmarked (fin s m k) v e = refl
 
-pub carried : (x v : Float) → worked x ≡ Finite v → v ≡ x
+pub carried : (x v : Float) → worked x ≡ Some v → v ≡ x
 unfolding worked
 carried nan v e = cc
 carried (inf s) v e = cc

@@ -4,9 +4,10 @@ pub mod Batches
 pub mod Order
 pub mod Rearranged
 pub mod Ordered
-pub mod Push
+pub mod Pushing
 pub mod Put
 pub mod Held
+pub mod Waiting
 pub mod Filling
 pub mod Merging
 pub mod Offering

@@ -1,5 +1,5 @@
 -- Laws on candidates that are offered in their turn: one more, none that counts, the first k that results and batch then hold, and what is merged at the end.
-use Prim.Native.Nat.{ℕ, zero, suc, ◌+◌, ◌-◌, ◌≤◌, ◌<◌}
+use Prim.Native.Nat.{ℕ, suc, ◌+◌, ◌-◌, ◌≤◌, ◌<◌}
 use mathlib.Core.Path.{◌≡◌, refl, sym, ◌∙◌, ap, ap₂}
 use mathlib.Core.Bool.{Bool, true}
 use mathlib.Core.List.{List, [], ◌∷◌, ◌++◌, map}
@@ -7,22 +7,18 @@ use native.Mathlib.Numerals.{add-one}
 use native.Mathlib.Omega.{arith}
 use borrow.Author.Tests.{eq-eqb}
 use lib.ListN.{length, take, drop}
-use lib.Seq.{take-take, drop-drop}
+use lib.Seq.{take-take, take-suc, drop-drop}
 use lib.Ieee.{Float}
-use Rattle.lists.specs.Lists.{tab}
-use Rattle.lists.specs.Tests.{every}
-use Rattle.lists.proofs.Tables.{get_or-tab}
-use Rattle.lists.proofs.Tests.{and_l, and_r, and_both, every_true}
-use Rattle.metrics.specs.Distance.{finite_in}
+use Rattle.std.specs.List.{list_all}
+use Rattle.lists.proofs.Tests.{and_l, and_r, and_both}
 use Rattle.neighbor.specs.declared.Candidate.{Candidate}
 use Rattle.neighbor.specs.Neighbor.{comes_before, insert_by, insert_all, row_of, sum_of}
-use Rattle.neighbor.specs.Held.{FiniteSum, AllFinite, held, held_at, before_last, Merged}
-use Rattle.neighbor.specs.Gathered.{Runs, runs, Gathered, gathered, passed_over, offered}
-use Rattle.neighbor.proofs.Held.{length-held}
+use Rattle.neighbor.specs.Held.{FiniteSum, candidate_at, AllFinite, held, held_at, before_last, Merged}
+use Rattle.neighbor.specs.Gathered.{Batch, Runs, runs, Gathered, waits, gathered, passed_over, offered}
 use Rattle.neighbor.proofs.Insertion.{insert-take}
-use Rattle.neighbor.proofs.Sorted.{all_tail}
+use Rattle.neighbor.proofs.Sorted.{all_tail, all_take as finite_take}
 use Rattle.neighbor.proofs.Offering.{Offered, length-stay, offered-law}
-use Rattle.offers.specs.OffersInner.{offered_all, Stands, behind_at}
+use Rattle.offers.specs.OffersInner.{offered_all, behind}
 
 -- ---- the definition
 
@@ -36,28 +32,27 @@ offered-last : (s : Runs) (cs : List Candidate) (c : Candidate) → offered_all 
 unfolding offered_all
 offered-last s cs c = offered-append s cs (c ∷ [])
 
--- of two runs: none, and one more
-pub each_none : (s : Runs) (rows : List ℕ) (sums : List Float) → s ≡ offered_all s (held rows sums 0)
-unfolding offered_all tab
-each_none s rows sums = refl
+-- of a list: none, and one more
+pub each_none : (s : Runs) (cs : List Candidate) → s ≡ offered_all s (take 0 cs)
+unfolding offered_all
+each_none s cs = refl
 
-pub each_more : (s s' s'' : Runs) (rows : List ℕ) (sums : List Float) (j : ℕ) → s' ≡ offered_all s (held rows sums j) → s'' ≡ offered s' (held_at rows sums j)
-    → s'' ≡ offered_all s (held rows sums (j + 1))
-unfolding tab
-each_more s s' s'' rows sums j e f = rw add-one (f ∙ ap (λ (u : Runs). offered u (held_at rows sums j)) e ∙ sym (offered-last s (held rows sums j) (held_at rows sums j)))
+pub each_more : (s s' s'' : Runs) (cs : List Candidate) (j : ℕ) → j < length cs → s' ≡ offered_all s (take j cs) → s'' ≡ offered s' (candidate_at cs j)
+    → s'' ≡ offered_all s (take (j + 1) cs)
+each_more s s' s'' cs j h e f =
+    let c = candidate_at cs j in
+    rw add-one (f ∙ ap (λ (u : Runs). offered u c) e ∙ sym (offered-last s (take j cs) c) ∙ ap (offered_all s) (sym (take-suc cs j _ h)))
 
 -- where all places are held and none comes before the last, nothing changes
-pub skipped : (s : Runs) (i : ℕ) → s.found ≡ suc i → s.found ≡ length s.rows → (rows : List ℕ) (sums : List Float) (n : ℕ)
-    → every (behind_at (held_at s.rows s.sums i) rows sums) n ≡ true → s ≡ offered_all s (held rows sums n)
-unfolding tab every before_last offered offered_all
-skipped s i e k rows sums zero b = refl
-skipped s i e k rows sums (suc n) b =
-    let c = held_at rows sums n in
-    let B = every (behind_at (held_at s.rows s.sums i) rows sums) n in
+pub skipped : (s : Runs) (i : ℕ) → s.found ≡ suc i → s.found ≡ length s.rows → (cs : List Candidate) → list_all (behind (held_at s.rows s.sums i)) cs ≡ true → s ≡ offered_all s cs
+unfolding before_last offered offered_all
+skipped s i e k [] b = refl
+skipped s i e k (c ∷ cs) b =
+    let t = behind (held_at s.rows s.sums i) in
     let l : before_last s.rows s.sums s.found c ≡ comes_before c (held_at s.rows s.sums i) = ap (λ (m : ℕ). before_last s.rows s.sums m c) e in
-    let p : passed_over s c ≡ true = and_both (eq-eqb s.found (length s.rows) k) (rw l (and_r B (behind_at (held_at s.rows s.sums i) rows sums n) b)) in
+    let p : passed_over s c ≡ true = and_both (eq-eqb s.found (length s.rows) k) (rw l (and_l (t c) (list_all t cs) b)) in
     let o : s ≡ offered s c = rw p in
-    o ∙ ap (λ (u : Runs). offered u c) (skipped s i e k rows sums n (and_l B (behind_at (held_at s.rows s.sums i) rows sums n) b)) ∙ sym (offered-last s (held rows sums n) c)
+    skipped s i e k cs (and_r (t c) (list_all t cs) b) ∙ ap (λ (u : Runs). offered_all u cs) o
 
 -- ---- the first k
 
@@ -138,15 +133,9 @@ offered-all s (c ∷ cs) G f =
     let O = offered-law s c G (f 0 (omega arith)) in
     offered-join s (offered s c) (offered_all (offered s c) cs) (c ∷ []) cs (offered-one s (offered s c) c O) (offered-all (offered s c) cs O.again (all_tail _ FiniteSum c cs f))
 
--- what stands in two runs is finite
-pub stands-finite : (rows : List ℕ) (sums : List Float) (n j : ℕ) → Stands rows sums n → j ≤ n → AllFinite (held rows sums j)
-stands-finite rows sums n j S l i h =
-    let k : i < j = omega (arith, length-held rows sums j) in
-    rw (get_or-tab (held_at rows sums) j i _ k) (every_true (finite_in sums) n S.all-finite i (omega arith))
-
--- so the next finds results and batch in order
-pub each-gathered : (s s' : Runs) (rows : List ℕ) (sums : List Float) (n j : ℕ) → Gathered s → Stands rows sums n → j ≤ n → s' ≡ offered_all s (held rows sums j) → Gathered s'
-each-gathered s s' rows sums n j G S l e = rw e (offered-all s (held rows sums j) G (stands-finite rows sums n j S l)).again
+-- so the next of a list finds results and batch in order
+pub each-gathered : (s s' : Runs) (cs : List Candidate) (j : ℕ) → Gathered s → AllFinite cs → s' ≡ offered_all s (take j cs) → Gathered s'
+each-gathered s s' cs j G f e = rw e (offered-all s (take j cs) G (finite_take _ FiniteSum j cs f)).again
 
 -- ---- the end
 
@@ -157,13 +146,12 @@ pub record Kept (l cs : List Candidate) (rows : List ℕ) (sums : List Float) (r
   pub sums-are : sums' ≡ map sum_of (first_with (length rows) l cs) ++ drop (length (first_with (length rows) l cs)) sums
 
 -- what waits is merged
-pub offered-done : (rows : List ℕ) (sums : List Float) (found : ℕ) (batch_rows : List ℕ) (batch_sums : List Float) (cs : List Candidate) (s : Runs) (rows' : List ℕ) (sums' : List Float) (r : ℕ)
-    → OfferedAll (runs rows sums found batch_rows batch_sums 0) cs s
-    → Merged s.rows s.sums s.found s.batch_rows s.batch_sums s.waiting rows' sums' r → Kept (held rows sums found) cs rows sums rows' sums' r
-unfolding tab insert_all
-offered-done rows sums found batch_rows batch_sums cs s rows' sums' r P M =
-    let e : gathered s ≡ first_with (length rows) (held rows sums found) cs = P.first ∙ all_take comes_before (length rows) (held rows sums found) cs in
-    let n : r ≡ length (first_with (length rows) (held rows sums found) cs) = sym (length-stay _ _ _ _ _ _ _ _ _ M) ∙ ap length e in
+pub offered-done : (rows : List ℕ) (sums : List Float) (found : ℕ) (batch : Batch) (cs : List Candidate) (s : Runs) (rows' : List ℕ) (sums' : List Float) (r : ℕ) → batch.waiting ≡ 0
+    → OfferedAll (runs rows sums found batch) cs s → Merged s.rows s.sums s.found (waits s) rows' sums' r → Kept (held rows sums found) cs rows sums rows' sums' r
+unfolding insert_all
+offered-done rows sums found batch cs s rows' sums' r z P M =
+    let e : gathered s ≡ first_with (length rows) (held rows sums found) cs = rw z at P.first ∙ all_take comes_before (length rows) (held rows sums found) cs in
+    let n : r ≡ length (first_with (length rows) (held rows sums found) cs) = sym (length-stay _ _ _ _ _ _ _ M) ∙ ap length e in
     let a : s.found ≤ r = omega (arith, M.count, P.again.results.within) in record {
       found-is = n;
       rows_are = M.numbers ∙ rw (e, ← n, drop-later s.rows rows s.found r a P.numbers);

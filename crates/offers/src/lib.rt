@@ -1,112 +1,67 @@
-// Candidates that stand in two runs are offered to the results one after the other, by way of the batch.
+// Candidates are offered to the results one after the other, by way of the batch.
 #![tactic(auto)]
 
-ghost use Rattle.std.specs.Prelude.{◌≡◌, ◌≤◌, ◌<◌, length};
-ghost use Rattle.lists.specs.Tests.{every};
-ghost use Rattle.neighbor.specs.Held.{held_at, held};
-ghost use Rattle.neighbor.specs.Gathered.{runs, Gathered};
-ghost use Rattle.offers.specs.OffersInner.{offered_all, Stands, behind_at};
+ghost use Rattle.std.specs.Prelude.{◌≡◌};
+ghost use Rattle.std.specs.List.{list_all};
+ghost use Rattle.neighbor.specs.Held.{AllFinite};
+ghost use Rattle.neighbor.specs.Gathered.{batch_of, runs, Gathered};
+ghost use Rattle.offers.specs.OffersInner.{offered_all, behind};
 
 use neighbor::{Candidate, Counts};
 
-// Whether none of the first n comes before what place `last` of the results holds.
-fn all_behind(
-    rows: &[u32],
-    sums: &[f32],
-    last: usize,
-    picked: &[u32],
-    picked_sums: &[f32],
-    n: usize,
-) -> bool
-    requires { (last < length rows.now) × (last < length sums.now) × (n ≤ length picked.now) × (n ≤ length picked_sums.now) }
-    ensures { result ≡ every (behind_at (held_at rows.now sums.now last) picked.now picked_sums.now) n }
+// Whether none of those picked comes before `least`.
+fn all_behind(least: Candidate, picked: &[Candidate]) -> bool
+    ensures { result ≡ list_all (behind least) picked.now }
 {
-    let least = Candidate {
-        sum: sums[last],
-        row: rows[last],
-    };
+    // Not by `all`, which ends at the first that does: so all are tested side by side.
     let mut all = true;
-    for j in 0..n {
-        let c = Candidate {
-            sum: picked_sums[j],
-            row: picked[j],
-        };
-        let before = neighbor::precedes(c, least);
+    for c in picked {
+        let before = neighbor::precedes(*c, least);
         all = all & !before;
     }
     all
 }
 
-// The first n are offered to the results, in their order.
+// Those picked are offered to the results, in their order.
 fn offer_each(
     rows: &mut [u32],
     sums: &mut [f32],
     found: usize,
-    batch_rows: &mut [u32],
-    batch_sums: &mut [f32],
+    batch: &mut [Candidate],
     waiting: usize,
-    picked: &[u32],
-    picked_sums: &[f32],
-    n: usize,
+    picked: &[Candidate],
 ) -> Counts
-    requires gathered { Gathered (runs rows.old sums.old found batch_rows.old batch_sums.old waiting) }
-    requires stands { Stands picked.now picked_sums.now n }
-    ensures { runs rows.new sums.new result.found batch_rows.new batch_sums.new result.waiting ≡
-        offered_all (runs rows.old sums.old found batch_rows.old batch_sums.old waiting)
-        (held picked.now picked_sums.now n) }
+    requires gathered { Gathered (runs rows.old sums.old found (batch_of batch.old waiting)) }
+    requires finite { AllFinite picked.now }
+    ensures { runs rows.new sums.new result.found (batch_of batch.new result.waiting) ≡
+        offered_all (runs rows.old sums.old found (batch_of batch.old waiting)) picked.now }
 {
     let mut counts = Counts { found, waiting };
-    for j in 0..n {
-        let c = Candidate {
-            sum: picked_sums[j],
-            row: picked[j],
-        };
-        counts = neighbor::offer(
-            rows,
-            sums,
-            counts.found,
-            batch_rows,
-            batch_sums,
-            counts.waiting,
-            c,
-        );
+    for c in picked {
+        counts = neighbor::offer(rows, sums, counts.found, batch, counts.waiting, *c);
     }
     counts
 }
 
-// The same, where all places are held and none of the n comes before the last, with nothing to do.
+// The same, where all places are held and none of those picked comes before the last, with nothing to do.
 pub fn offer_all(
     rows: &mut [u32],
     sums: &mut [f32],
     found: usize,
-    batch_rows: &mut [u32],
-    batch_sums: &mut [f32],
+    batch: &mut [Candidate],
     waiting: usize,
-    picked: &[u32],
-    picked_sums: &[f32],
-    n: usize,
+    picked: &[Candidate],
 ) -> Counts
-    requires gathered { Gathered (runs rows.old sums.old found batch_rows.old batch_sums.old waiting) }
-    requires stands { Stands picked.now picked_sums.now n }
-    ensures { runs rows.new sums.new result.found batch_rows.new batch_sums.new result.waiting ≡
-        offered_all (runs rows.old sums.old found batch_rows.old batch_sums.old waiting)
-        (held picked.now picked_sums.now n) }
+    requires gathered { Gathered (runs rows.old sums.old found (batch_of batch.old waiting)) }
+    requires finite { AllFinite picked.now }
+    ensures { runs rows.new sums.new result.found (batch_of batch.new result.waiting) ≡
+        offered_all (runs rows.old sums.old found (batch_of batch.old waiting)) picked.now }
 {
-    if (0 < found) & (found == rows.len()) {
-        let last = found - 1;
-        if all_behind(rows, sums, last, picked, picked_sums, n) {
+    if 0 < found && found == rows.len() {
+        let least = neighbor::candidate_at(rows, sums, found - 1);
+        if all_behind(least, picked) {
             return Counts { found, waiting };
         }
     }
-    offer_each(
-        rows,
-        sums,
-        found,
-        batch_rows,
-        batch_sums,
-        waiting,
-        picked,
-        picked_sums,
-        n,
-    )
+    offer_each(rows, sums, found, batch, waiting, picked)
 }

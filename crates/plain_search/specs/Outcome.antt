@@ -1,5 +1,7 @@
 -- Plain search: for any input, the answer and every lent buffer afterwards.
-use Rattle.std.specs.Prelude.{ℕ, List, [], ◌∷◌, Bool, cond, not, eqb, Float}
+use Rattle.std.specs.Prelude.{ℕ, List, [], ◌∷◌, Bool, cond, not, Float}
+use Rattle.answers.specs.declared.Refusal.TheVariants.{Damaged, DistanceNotFinite}
+use Rattle.answers.specs.Answers.{Checked, unless}
 use Rattle.lists.specs.Lists.{tab}
 use Rattle.lists.specs.Tests.{any_of}
 use Rattle.metrics.specs.Distance.{coordinate_in}
@@ -39,7 +41,7 @@ search_lengths l i =
     ∷ []
 
 -- tests 1, 3, 4, 5, 6
-unfoldable pub search_refusal : SearchIn → ℕ
+unfoldable pub search_refusal : SearchIn → Checked
 search_refusal i =
     search_tests (bad_plain i.shape) i.n (any_of (search_lengths (plain_of i.shape i.n) i)) (asked_of i.lent) i.query
 
@@ -55,11 +57,11 @@ whole_cell i = record {
   rows = tab (λ (m : ℕ). m) i.n;
 }
 
--- Damage of a visible row's codes is 10, then a table entry or a sum that is not finite 11.
+-- Refused for damage of a visible row's codes, then for a table entry or a sum that is not finite.
 unfoldable pub search_worked : Cell → Lent → SearchOut
 search_worked c l =
-    cond (not (codes_sound c)) (blank l 10)
-    (cond (not (cell_finite c)) (blank l 11) (answered l (candidates c)))
+    cond (not (codes_sound c)) (blank l Damaged)
+    (cond (not (cell_finite c)) (blank l DistanceNotFinite) (answered l (candidates c)))
 
 unfoldable pub search_outcome : SearchIn → SearchOut
-search_outcome i = cond (eqb (search_refusal i) 0) (search_worked (whole_cell i) i.lent) (unchanged i.lent (search_refusal i))
+search_outcome i = unless (search_refusal i) (search_worked (whole_cell i) i.lent) (unchanged i.lent)

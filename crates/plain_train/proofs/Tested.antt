@@ -1,14 +1,18 @@
--- The tests of a plain training: what follows from the number that they answer.
-use Prim.Native.Nat.{ℕ}
+-- The tests of a plain training: what follows from what they answer.
 use mathlib.Core.Path.{◌≡◌, sym, ◌∙◌, ap}
 use mathlib.Core.Bool.{Bool, ◌||◌}
-use borrow.Author.Tests.{ltb-false, ne_eqb}
+use mathlib.Core.List.{[], ◌∷◌}
+use lib.ListN.{length}
+use borrow.Author.Tests.{ltb-false}
+use Rattle.std.specs.Prelude.{Ok, Err}
+use Rattle.answers.specs.declared.Refusal.{Refusal}
+use Rattle.answers.specs.Answers.{Checked}
 use Rattle.lists.specs.Tests.{any_of}
 use Rattle.lists.proofs.Tests.{none, or_l, or_r}
 use Rattle.pq_params.specs.declared.PlainLengths.{PlainLengths}
-use Rattle.pq_params.specs.Bounds.{bad_plain, bad_epochs}
+use Rattle.pq_params.specs.Bounds.{bad_plain, bad_epochs, too_many_draws}
 use Rattle.pq_params.specs.Lengths.{plain_of, plain_lengths}
-use Rattle.pq_params.specs.Refusals.{train_tests}
+use Rattle.pq_params.specs.Refusals.{not_long, train_tests}
 use Rattle.pq_params.proofs.Refusing.{same-long, train-passed, train-agree, plain-long}
 use Rattle.pq_train.proofs.Draws.{in-range}
 use Rattle.plain_train.specs.Outcome.{TrainIn, train_lengths, train_refusal, train_unchanged, train_ended, train_outcome}
@@ -21,32 +25,34 @@ module _ (i : TrainIn) where
   abbrev wrong : PlainLengths → Bool
   wrong l = any_of (train_lengths l i)
 
-  -- the number that the code works out from the lengths that it is told
-  abbrev pub number_in : ℕ
-  number_in = train_tests bad i.n (wrong (plain_lengths i.shape i.n)) i.rows i.draws
+  -- the tests as the code makes them, from the lengths that it is told
+  abbrev pub tests_in : Checked
+  tests_in = train_tests bad i.n (wrong (plain_lengths i.shape i.n)) i.rows i.draws
 
-  refusal_is : number_in ≡ train_refusal i
+  -- the same from what its calls answer
+  pub tests-told : {b e many : Bool} {l : PlainLengths} → b ≡ bad_plain i.shape → e ≡ bad_epochs i.epochs → l ≡ plain_lengths i.shape i.n → many ≡ too_many_draws (length i.draws)
+      → train_tests (b || e) i.n (any_of (not_long i.rows l.rows ∷ not_long i.subs l.subs ∷ not_long i.codes l.codes ∷ not_long i.work l.work ∷ many ∷ [])) i.rows i.draws ≡ tests_in
+  tests-told p q r t = rw (p, q, r, t)
+
+  refusal_is : tests_in ≡ train_refusal i
   unfolding train_refusal
   refusal_is =
       train-agree bad i.n (wrong (plain_lengths i.shape i.n)) (wrong (plain_of i.shape i.n)) i.rows i.draws
       (λ g few. ap wrong (plain-long i.shape i.n (or_l (bad_plain i.shape) (bad_epochs i.epochs) g) few))
 
-  module _ (number : ℕ) (e : number ≡ number_in) where
-    pub out-refused : (number ≡ 0 → ⊥) → train_unchanged i number ≡ train_outcome i
+  pub out-refused : (r : Refusal) → Err r ≡ tests_in → train_unchanged i r ≡ train_outcome i
+  unfolding train_outcome
+  out-refused r e = rw (sym (e ∙ refusal_is))
+
+  module _ (e : Ok tt ≡ tests_in) where
+    pub out-worked : train_ended i ≡ train_outcome i
     unfolding train_outcome
-    out-refused h = rw (sym (e ∙ refusal_is), ne_eqb number 0 h)
+    out-worked = rw (sym (e ∙ refusal_is))
 
-    zero_is : number ≡ 0 → train_refusal i ≡ 0
-    zero_is z = sym (e ∙ refusal_is) ∙ z
-
-    pub out-worked : number ≡ 0 → train_ended i ≡ train_outcome i
-    unfolding train_outcome
-    out-worked z = rw (zero_is z)
-
-    pub ready : number ≡ 0 → Ready i
+    pub ready : Ready i
     unfolding train_refusal
-    ready z =
-        let p = train-passed bad i.n (wrong (plain_of i.shape i.n)) i.rows i.draws (zero_is z) in
+    ready =
+        let p = train-passed bad i.n (wrong (plain_of i.shape i.n)) i.rows i.draws (sym (e ∙ refusal_is)) in
         let l = none (train_lengths (plain_of i.shape i.n) i) p.right in
         record {
           good = or_l (bad_plain i.shape) (bad_epochs i.epochs) p.good;

@@ -1,5 +1,5 @@
 -- Plain training: for any input, the answer and every lent buffer afterwards.
-use Rattle.std.specs.Prelude.{ℕ, List, [], ◌∷◌, Bool, cond, ◌||◌, length, eqb, Float}
+use Rattle.std.specs.Prelude.{ℕ, List, [], ◌∷◌, Bool, ◌||◌, Ok, Err, length, Float}
 use Rattle.lists.specs.Lists.{fill, grid}
 use Rattle.lists.specs.Tests.{any_of}
 use Rattle.metrics.specs.Distance.{zero32}
@@ -8,10 +8,10 @@ use Rattle.pq_params.specs.declared.PlainLengths.{PlainLengths}
 use Rattle.pq_params.specs.Bounds.{bad_plain, bad_epochs, too_many_draws}
 use Rattle.pq_params.specs.Lengths.{plain_of}
 use Rattle.pq_params.specs.Refusals.{not_long, train_tests}
-use Rattle.answers.specs.declared.Trained.{Trained}
-use Rattle.answers.specs.declared.Trained.TheVariants.{Done, Refused}
+use Rattle.answers.specs.declared.Refusal.{Refusal}
+use Rattle.answers.specs.declared.Untrained.TheVariants.{Refused}
 use Rattle.answers.specs.declared.TrainAnswer.{TrainAnswer}
-use Rattle.answers.specs.Answers.{no_place, train_said, ended}
+use Rattle.answers.specs.Answers.{Trained, Checked, number_of, no_place, train_said, ended, unless}
 use Rattle.pq_train.specs.Training.{Listed, row_at, answer_of, sub_centers, code_of}
 
 -- ---- what a training is given, and what it leaves
@@ -53,7 +53,7 @@ train_lengths l i =
     ∷ too_many_draws (length i.draws)
     ∷ []
 
-unfoldable pub train_refusal : TrainIn → ℕ
+unfoldable pub train_refusal : TrainIn → Checked
 train_refusal i =
     train_tests (bad_plain i.shape || bad_epochs i.epochs) i.n (any_of (train_lengths (plain_of i.shape i.n) i)) i.rows i.draws
 
@@ -77,10 +77,10 @@ plain_code i m = code_of (all_rows i) (row_at i.rows i.shape.d m)
 -- ---- the outcome
 
 -- refusals 1 to 7: nothing changed
-abbrev pub train_unchanged : TrainIn → ℕ → TrainOut
-train_unchanged i number = record {
-  answer = Refused number;
-  said = record { number = number; place = no_place; used = 0 };
+abbrev pub train_unchanged : TrainIn → Refusal → TrainOut
+train_unchanged i r = record {
+  answer = Err (Refused r);
+  said = record { number = number_of r; place = no_place; used = 0 };
   subs = i.subs;
   codes = i.codes;
   work = i.work;
@@ -98,7 +98,7 @@ train_zero i answer = record {
 
 abbrev pub train_done : TrainIn → ℕ → TrainOut
 train_done i used = record {
-  answer = Done used;
+  answer = Ok used;
   said = record { number = 0; place = no_place; used = used };
   subs = sub_centers (all_rows i);
   codes = grid (plain_code i) i.n i.shape.nsub;
@@ -110,4 +110,4 @@ abbrev pub train_ended : TrainIn → TrainOut
 train_ended i = ended (answer_of (all_rows i)) (train_done i) (train_zero i)
 
 unfoldable pub train_outcome : TrainIn → TrainOut
-train_outcome i = cond (eqb (train_refusal i) 0) (train_ended i) (train_unchanged i (train_refusal i))
+train_outcome i = unless (train_refusal i) (train_ended i) (train_unchanged i)

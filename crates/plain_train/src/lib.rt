@@ -1,4 +1,6 @@
 // Training of the plain index: one list of all rows, without residual; then the code of each row.
+// The entry point's parameters stay flat, as C lends them. What is written does throughout: a struct of `&mut` would need a ghost name for each
+// in every clause.
 #![tactic(auto)]
 
 ghost use Rattle.std.specs.Prelude.{◌≡◌};
@@ -6,17 +8,17 @@ ghost use Rattle.lists.specs.Lists.{grid};
 ghost use Rattle.plain_train.specs.Outcome.{train_in, train_out, train_ended, train_outcome};
 ghost use Rattle.plain_train.specs.TrainInner.{Ready, Codable, code_in};
 
-use answers::Trained;
+use answers::Untrained;
 use pq_params::Shape;
 use pq_train::RowList;
 
 // The codes of all rows, each against the finished sub-centres.
-fn fill_codes(l: RowList, rows: &[f32], subs: &[f32], codes: &mut [u8])
-    requires { Codable l rows.now subs.now codes.old }
-    ensures { codes.new ≡ grid (code_in l rows.now subs.now) l.n l.shape.nsub }
+fn fill_codes(l: RowList<'_>, subs: &[f32], codes: &mut [u8])
+    requires { Codable l subs.now codes.old }
+    ensures { codes.new ≡ grid (code_in l.entry.shape l.entry.rows.now subs.now) l.entry.n l.entry.shape.nsub }
 {
     for m in 0..l.n {
-        pq_train::fill_row(l, rows, m, rows, subs, codes);
+        pq_train::fill_row(l, m, subs, codes);
     }
 }
 
@@ -30,7 +32,7 @@ fn train_ready(
     subs: &mut [f32],
     codes: &mut [u8],
     work: &mut [u32],
-) -> Trained
+) -> Result<usize, Untrained>
     requires { Ready (train_in s epochs n rows.now draws.now subs.old codes.old work.old) }
     ensures { train_out result subs.new codes.new work.new
         ≡ train_ended (train_in s epochs n rows.now draws.now subs.old codes.old work.old) }
@@ -39,19 +41,18 @@ fn train_ready(
         shape: s,
         epochs: epochs as u32,
         cell: 0,
-        listed: false,
-        has: false,
         n,
+        rows,
+        members: None,
+        center: None,
     };
-    let nobody = [0u32; 1];
-    let t = pq_train::train_list(l, rows, &nobody, rows, draws, 0, subs, &mut work[..n]);
-    lists::fill_numbers(work, 0);
-    let Trained::Done(used) = t else {
-        lists::fill_bytes(codes, 0);
-        return t;
-    };
-    fill_codes(l, rows, subs, codes);
-    Trained::Done(used)
+    let t = pq_train::train_list(l, draws, 0, subs, &mut work[..n]);
+    lists::fill(work, 0);
+    match t {
+        Ok(_) => fill_codes(l, subs, codes),
+        Err(_) => lists::fill(codes, 0),
+    }
+    t
 }
 
 // Training of the plain index, for any input: its sub-centres and codes, or a refusal.
@@ -64,7 +65,7 @@ pub fn train(
     subs: &mut [f32],
     codes: &mut [u8],
     work: &mut [u32],
-) -> Trained
+) -> Result<usize, Untrained>
     ensures { train_out result subs.new codes.new work.new
         ≡ train_outcome (train_in s epochs n rows.now draws.now subs.old codes.old work.old) }
 {
@@ -75,9 +76,6 @@ pub fn train(
         | (codes.len() != l.codes)
         | (work.len() != l.work)
         | pq_params::too_many_draws(draws.len());
-    let number = pq_params::train_refusal(bad, n, wrong, rows, draws);
-    if number != 0 {
-        return Trained::Refused(number);
-    }
+    pq_params::train_refusal(bad, n, wrong, rows, draws)?;
     train_ready(s, epochs, n, rows, draws, subs, codes, work)
 }

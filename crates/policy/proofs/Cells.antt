@@ -1,6 +1,6 @@
 -- One cell, met with other rows and other codes: what the search does there is the same if the visible rows and their codes are.
 use Prim.Native.Nat.{ℕ, ◌<◌}
-use mathlib.Core.Path.{◌≡◌, ap}
+use mathlib.Core.Path.{◌≡◌, refl, ap}
 use mathlib.Core.Bool.{Bool, true, cond, ◌&&◌}
 use mathlib.Core.List.{List}
 use lib.ListN.{length, get_or}
@@ -17,6 +17,8 @@ use Rattle.cell_table.specs.Tables.{Cell, entry_at, table_finite}
 use Rattle.cell_codes.specs.Codes.{visible_rows, codes_sound}
 use Rattle.cell_sums.specs.Sums.{sum_at}
 use Rattle.cell_walk.specs.Candidates.{nothing_shown, cell_finite, candidates}
+use Rattle.policy.specs.Check.{StandsIn}
+use Rattle.policy.proofs.Standing.{keep-from}
 
 -- the cell, with other codes and rows
 abbrev pub met : Cell → List ℕ → List ℕ → Cell
@@ -33,6 +35,10 @@ met c codes rows = record {
 -- its i-th visible row
 abbrev pub shown_at : Cell → ℕ → ℕ
 shown_at c i = get_or (visible_rows c) i 0
+
+-- it is one of its rows, and is shown
+pub shown-stands : (c : Cell) (i : ℕ) → i < length (visible_rows c) → StandsIn c.rows (shown_at c i) × (c.shown (shown_at c i) ≡ true)
+shown-stands c i h = keep-from c.shown c.rows (shown_at c i) (i, record { within = h; held = refl })
 
 -- the codes of the visible rows are equal
 abbrev pub ShownAlike : Cell → List ℕ → Type 0

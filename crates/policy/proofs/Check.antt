@@ -8,13 +8,13 @@ use native.Mathlib.Omega.{arith}
 use borrow.Author.Tests.{ltb-true, le-ltb, le-leb, eqb-true, eq-eqb, ne_eqb}
 use lib.ListN.{length, get_or}
 use lib.Dec.{eqb}
+use Rattle.std.specs.Prelude.{Ok}
 use Rattle.lists.specs.Lists.{part}
 use Rattle.lists.specs.Tests.{every, rising}
 use Rattle.lists.proofs.Parts.{get_or-part, within-part}
 use Rattle.lists.proofs.Counting.{under, counted, count-found, count-once, once-count, count-full, count-below}
 use Rattle.lists.proofs.Rising.{rising-true, rising-of}
 use Rattle.lists.proofs.Tests.{none, none_left, and_l, and_r, and_both, every_true, every_of, every-below, below-every}
-use Rattle.answers.specs.declared.Checked.TheVariants.{Accepted}
 use Rattle.pq_params.specs.Bounds.{bad_celled, centers_of}
 use Rattle.pq_params.specs.Lengths.{celled_of}
 use Rattle.pq_params.specs.Codes.{code_at, codes_below}
@@ -25,8 +25,9 @@ use Rattle.celled_lists.specs.Index.{Index, index_lengths}
 use Rattle.celled_lists.specs.Lists.{start_of, never_falls, starts_sound, is_below, list_sound, places}
 use Rattle.celled_lists.proofs.Starts.{first-start, last-start, next_start}
 use Rattle.celled_lists.proofs.Lengths.{sized}
-use Rattle.celled_check.specs.Check.{cell_sound, stands_once, index_sound, CheckIn, CheckOut, check_lengths, check_refusal, unchanged, accepted, damaged, check_outcome}
+use Rattle.celled_check.specs.Check.{cell_sound, stands_once, index_sound, CheckIn, CheckOut, check_lengths, check_refusal, unchanged, accepted, damaged, checked, check_outcome}
 use Rattle.policy.specs.Check.{InBounds, HoldsAt, StandsIn, EachBelow, EachBelowNext, list_at, InOrder, Acceptable}
+use Rattle.policy.proofs.Unless.{unless_done}
 
 -- ---- a row stands once
 
@@ -176,18 +177,19 @@ long l n e = rw (eq-eqb (length l) n e)
 
 -- ---- the whole check accepts exactly that
 
-accepted-tests : (i : CheckIn) (t u : Bool) (r : ℕ)
-    → (cond {A = CheckOut} t (cond u (accepted i) (damaged i)) (unchanged i r)).answer ≡ Accepted → (t ≡ true) × (u ≡ true)
-accepted-tests i true true r h = (refl, refl)
-accepted-tests i true false r h = let z : ◌≡◌ {A = ℕ} 0 1 = cc in absurd (omega arith)
-accepted-tests i false u r h = let z : ◌≡◌ {A = ℕ} 0 1 = cc in absurd (omega arith)
+abbrev Accepts : CheckOut → Type 0
+Accepts o = o.answer ≡ Ok tt
+
+accepted-sound : (i : CheckIn) (u : Bool) → Accepts (cond u (accepted i) (damaged i)) → u ≡ true
+accepted-sound i true h = refl
+accepted-sound i false h = cc
 
 module _ (i : CheckIn) where
-  acceptable-of : (check_outcome i).answer ≡ Accepted → Acceptable i
+  acceptable-of : (check_outcome i).answer ≡ Ok tt → Acceptable i
   unfolding check_outcome
   acceptable-of e =
-      let a = accepted-tests i (eqb (check_refusal i) 0) (index_sound i.index) (check_refusal i) e in
-      let passed = check-passed _ _ _ (eqb-true (check_refusal i) 0 a.0) in
+      let a = unless_done Accepts (check_refusal i) (checked i) (unchanged i) (λ r h. cc) e in
+      let passed = check-passed _ _ _ a.0 in
       let l = sized i.index (none_left (index_lengths i.index) (not_long i.work (celled_of i.index.shape i.index.n).work ∷ []) passed.right) in
       record {
         bounds = bounds_of i.index passed.good passed.rows_few;
@@ -199,10 +201,10 @@ module _ (i : CheckIn) where
           codes = l.codes-long;
           work = same-long i.work _ (none (check_lengths i) passed.right 5);
         };
-        order = order-of i.index a.1;
+        order = order-of i.index (accepted-sound i (index_sound i.index) a.1);
       }
 
-  accepted-of : Acceptable i → (check_outcome i).answer ≡ Accepted
+  accepted-of : Acceptable i → (check_outcome i).answer ≡ Ok tt
   unfolding check_outcome check_tests
   accepted-of a =
       let x : Index = i.index in
@@ -219,5 +221,5 @@ module _ (i : CheckIn) where
         sound-of x a.order,
       )
 
-  pub accepts-exact : ((check_outcome i).answer ≡ Accepted) ↔ Acceptable i
+  pub accepts-exact : ((check_outcome i).answer ≡ Ok tt) ↔ Acceptable i
   accepts-exact = (acceptable-of, accepted-of)

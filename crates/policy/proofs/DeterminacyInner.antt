@@ -3,12 +3,13 @@ use Prim.Native.Nat.{ℕ}
 use mathlib.Core.Path.{◌≡◌, sym, ◌∙◌}
 use mathlib.Core.List.{List}
 use lib.Ieee.{Float}
+use Rattle.answers.specs.Answers.{Checked}
 use Rattle.pq_params.specs.declared.CelledShape.{CelledShape}
 use Rattle.celled_lists.specs.Inner as Lists
 use Rattle.celled_fill.specs.FillInner as Fill
 use Rattle.celled_probe.specs.ProbeInner.{Probed}
 
-pub probed-determined : (f : ℕ → Float) (cells : ℕ) (out o o' : List ℕ) (r r' : ℕ) → Probed f cells out o r → Probed f cells out o' r' → (r ≡ r') × (o ≡ o')
+pub probed-determined : (f : ℕ → Float) (cells : ℕ) (out o o' : List ℕ) (r r' : Checked) → Probed f cells out o r → Probed f cells out o' r' → (r ≡ r') × (o ≡ o')
 probed-determined f cells out o o' r r' p q = (p.answer ∙ sym q.answer, p.cells_are ∙ sym q.cells_are)
 
 module _ (starts starts' members members' work' work'' : List ℕ) where

@@ -4,21 +4,16 @@ use mathlib.Core.Path.{◌≡◌, refl}
 use mathlib.Core.Bool.{true}
 use mathlib.Core.List.{List, [], ◌∷◌, ◌++◌, map}
 use lib.ListN.{replicate}
-use lib.Ieee.{nan, binary32, add, sub, mul, lt, eq, of_bits, to_bits}
-use Rattle.lists.specs.Lists.{tab}
-use Rattle.lists.specs.Tests.{every, keep}
+use lib.Ieee.{nan, binary32, of_bits, to_bits}
 use Rattle.lists.specs.Examples.{Example, agree}
 use Rattle.lists.proofs.Examples.{agree-append}
-use Rattle.metrics.specs.Distance.{zero32, sum_to, squared}
-use Rattle.neighbor.specs.Neighbor.{comes_before, insert_by, insert_all}
+use Rattle.metrics.specs.Distance.{zero32}
 use Rattle.neighbor.proofs.Examples.{neighbor_table, neighbor-examples}
-use Rattle.pq_params.specs.Ranges.{width_of, begin_of}
-use Rattle.pq_params.specs.Refusals.{any_not_finite, search_tests}
 use Rattle.pq_params.proofs.Examples.{ranges_table, ranges-agree}
 use Rattle.kmeans.proofs.Examples.{kmeans_table, kmeans-examples}
-use Rattle.cell_walk.specs.Candidates.{cell_finite, candidates}
 use Rattle.cell_walk.specs.Results.{SearchOut, lent}
-use Rattle.plain_search.specs.Outcome.{SearchIn, search_refusal, search_worked, search_outcome}
+use Rattle.plain_search.specs.Outcome.{SearchIn, search_outcome}
+use Rattle.policy.proofs.Computing.{plain_searches}
 
 -- ---- a search in which rows 0 to 3 have the sums 4, 1, 4, 0.5
 
@@ -59,7 +54,7 @@ search_table =
     ∷ []
 
 search-examples : agree search_table ≡ true
-unfolding search_outcome search_refusal search_tests search_worked cell_finite candidates any_not_finite width_of begin_of comes_before insert_by insert_all squared sum_to tab every keep of_bits to_bits add sub mul lt eq
+unfolding plain_searches to_bits
 search-examples = refl
 
 -- ---- all of them

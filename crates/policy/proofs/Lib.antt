@@ -1,3 +1,4 @@
+pub mod Unless
 pub mod Standing
 pub mod Check
 pub mod Passing
@@ -5,6 +6,7 @@ pub mod Cells
 pub mod Policy
 pub mod PlainPolicy
 pub mod Twice
+pub mod Computing
 pub mod PolicyExamples
 pub mod PlainExamples
 pub mod Examples

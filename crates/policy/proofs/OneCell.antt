@@ -1,23 +1,26 @@
 -- The two searches agree where a celled index has one cell whose coarse centre is zero.
 use Prim.Native.Nat.{ℕ, suc, ◌*◌, ◌≤◌}
 use mathlib.Core.Path.{◌≡◌, refl, sym, ◌∙◌, ap}
-use mathlib.Core.Bool.{Bool, true, false, cond, ◌&&◌, ◌||◌}
+use mathlib.Core.Bool.{Bool, true, false, ◌&&◌, ◌||◌}
 use mathlib.Core.List.{List, [], ◌∷◌}
 use native.Mathlib.Nat.{zero-mul, zero-add, one-mul, sub-zero}
 use native.Mathlib.Decide.{dec_lt}
 use native.Mathlib.Omega.{arith}
-use borrow.Author.Tests.{eq-eqb, eqb-true, le-leb}
+use borrow.Author.Tests.{eq-eqb, le-leb}
 use lib.ListN.{length, get_or-eq_default}
-use lib.Dec.{T, eqb}
+use lib.Dec.{T}
 use lib.Ieee.{Float, nan, binary32, sub, add, fits}
 use lib.Ieee.Scale.{finite}
+use Rattle.std.specs.Prelude.{Ok}
+use Rattle.std.proofs.Math.Bool.{or_comm, or_assoc}
 use Rattle.lists.specs.Lists.{tab, fill, join}
-use Rattle.lists.specs.Tests.{any_of, every}
+use Rattle.lists.specs.Tests.{any_from, any_of, every}
 use Rattle.lists.proofs.Tables.{length-tab, get_or-tab}
 use Rattle.lists.proofs.Parts.{part-all}
 use Rattle.lists.proofs.Tests.{none}
 use Rattle.metrics.specs.Distance.{zero32, coordinate_in, coordinate}
 use Rattle.metrics.proofs.Laws.{squared-ext}
+use Rattle.answers.specs.declared.Refusal.TheVariants.{DistanceNotFinite}
 use Rattle.neighbor.specs.Neighbor.{insert_by, insert_all}
 use Rattle.pq_params.specs.Bounds.{bad_plain}
 use Rattle.pq_params.specs.Lengths.{subs_long, table_long, plain_of, celled_of}
@@ -25,35 +28,21 @@ use Rattle.pq_params.specs.Refusals.{not_long}
 use Rattle.pq_params.proofs.Refusing.{same-long, search-passed}
 use Rattle.cell_codes.specs.Codes.{codes_sound}
 use Rattle.cell_walk.specs.Candidates.{cell_finite, candidates}
-use Rattle.cell_walk.specs.Results.{SearchOut, asked_of, unchanged, blank}
+use Rattle.cell_walk.specs.Results.{asked_of, unchanged, blank}
 use Rattle.celled_lists.specs.Lists.{starts_sound, list_sound}
 use Rattle.celled_probe.specs.Probe.{finite_cells, nearest_cells}
 use Rattle.plain_search.specs.Outcome.{SearchIn, whole_cell, search_lengths, search_refusal, search_worked, search_outcome}
 use Rattle.probed_cells.specs.Search.{Asked, starts_good, coarse_finite, probed, cell_at, members_at, cell_sound, probed_sound, probed_finite, all_candidates}
 use Rattle.celled_search.specs.Outcome as Celled
 use Rattle.policy.specs.OneCell.{one_cell, in_one_cell, farness, EachF32}
+use Rattle.policy.proofs.Unless.{unless_same}
 use Rattle.policy.proofs.Check.{long, list-sound}
 use Rattle.policy.proofs.LessZero.{less_zero}
 
 -- ---- tests 1 to 6 are the same
 
 same-any : (s c q m : Bool) (rest : List Bool) → any_of (s ∷ c ∷ q ∷ m ∷ rest) ≡ any_of (q ∷ m ∷ s ∷ c ∷ rest)
-same-any true true true true rest = refl
-same-any true true true false rest = refl
-same-any true true false true rest = refl
-same-any true true false false rest = refl
-same-any true false true true rest = refl
-same-any true false true false rest = refl
-same-any true false false true rest = refl
-same-any true false false false rest = refl
-same-any false true true true rest = refl
-same-any false true true false rest = refl
-same-any false true false true rest = refl
-same-any false true false false rest = refl
-same-any false false true true rest = refl
-same-any false false true false rest = refl
-same-any false false false true rest = refl
-same-any false false false false rest = refl
+same-any s c q m rest = ap (λ (b : Bool). any_from b rest) (or_assoc (s || c) q m ∙ or_comm (s || c) (q || m) ∙ sym (or_assoc (q || m) s c))
 
 -- the bounds of one cell and one probe hold
 same-bad : (b : Bool) → (b || false || false || false || false) ≡ b
@@ -168,27 +157,19 @@ module _ (i : SearchIn) (each : EachF32 i.query) (fit : length i.query ≡ i.sha
   unfolding Celled.search_worked search_worked
   same-worked = rw (starts-good i, coarse-one i ∙ near, same-sound, same-finite, same-candidates)
 
--- what a search whose tests pass does, where tests are alike
-when-passed : (t : ℕ) (o p u : SearchOut) → (t ≡ 0 → o ≡ p) → cond (eqb t 0) o u ≡ cond (eqb t 0) p u
-when-passed t o p u h = go (eqb t 0) (eqb-true t 0)
-  where
-    go : (b : Bool) → (b ≡ true → t ≡ 0) → cond b o u ≡ cond b p u
-    go true k = h (k refl)
-    go false k = refl
-
 module _ (i : SearchIn) where
-  query-long : search_refusal i ≡ 0 → length i.query ≡ i.shape.d
+  query-long : search_refusal i ≡ Ok tt → length i.query ≡ i.shape.d
   unfolding search_refusal
   query-long e = same-long i.query i.shape.d (none (lengths_of i) (search-passed _ _ _ _ _ e).right 0)
 
   -- The plain index is the celled one with one cell whose centre is zero, where the query's distance from zero is finite.
-  pub one-cell : EachF32 i.query → (search_refusal i ≡ 0 → finite (farness i) ≡ true) → Celled.search_outcome (in_one_cell i) ≡ search_outcome i
+  pub one-cell : EachF32 i.query → (search_refusal i ≡ Ok tt → finite (farness i) ≡ true) → Celled.search_outcome (in_one_cell i) ≡ search_outcome i
   unfolding Celled.search_outcome search_outcome
   one-cell each near =
       rw (same-refusal i)
-      (when-passed (search_refusal i) _ _ (unchanged i.lent (search_refusal i)) (λ e. same-worked i each (query-long e) (near e)))
+      (unless_same (search_refusal i) _ _ (unchanged i.lent) (λ e. same-worked i each (query-long e) (near e)))
 
   -- Else step 2 refuses it in the celled index.
-  pub one-cell-far : search_refusal i ≡ 0 → finite (farness i) ≡ false → Celled.search_outcome (in_one_cell i) ≡ blank i.lent 11
+  pub one-cell-far : search_refusal i ≡ Ok tt → finite (farness i) ≡ false → Celled.search_outcome (in_one_cell i) ≡ blank i.lent DistanceNotFinite
   unfolding Celled.search_outcome Celled.search_worked
   one-cell-far e far = rw (same-refusal i, e, starts-good i, coarse-one i ∙ far)

@@ -4,29 +4,16 @@ use mathlib.Core.Path.{◌≡◌, refl, ◌∙◌}
 use mathlib.Core.List.{List, [], ◌∷◌}
 use mathlib.Core.Bool.{false≢true}
 use native.Mathlib.Omega.{arith}
-use lib.Ieee.{Float, binary32, of_bits, add, sub, mul, lt, eq}
-use Rattle.lists.specs.Lists.{tab}
-use Rattle.lists.specs.Tests.{every, keep}
-use Rattle.metrics.specs.Distance.{zero32, sum_to, squared}
-use Rattle.neighbor.specs.Neighbor.{comes_before, insert_by, insert_all, blank_row}
-use Rattle.answers.specs.declared.Searched.TheVariants.{Done, Refused}
-use Rattle.pq_params.specs.Ranges.{width_of, begin_of}
-use Rattle.pq_params.specs.Refusals.{any_not_finite, search_tests}
-use Rattle.cell_walk.specs.Candidates.{cell_finite, candidates}
-use Rattle.cell_walk.specs.Results.{SearchOut, lent, search_out}
-use Rattle.plain_search.specs.Outcome.{SearchIn, search_refusal, search_worked, search_outcome}
+use Rattle.std.specs.Prelude.{Err}
+use Rattle.metrics.specs.Distance.{zero32}
+use Rattle.neighbor.specs.Neighbor.{blank_row}
+use Rattle.answers.specs.declared.Refusal.TheVariants.{Damaged}
+use Rattle.cell_walk.specs.Results.{SearchOut, lent, answer_of, search_out}
+use Rattle.plain_search.specs.Outcome.{SearchIn, search_outcome}
 use Rattle.policy.specs.Sight.{CodesAlike}
 use Rattle.policy.specs.PlainPolicy.{PlainAlike}
 use Rattle.policy.proofs.PlainPolicy.{plain-row-policy}
-
-abbrev one : Float
-one = of_bits binary32 0x3f80_0000
-
-abbrev minus_one : Float
-minus_one = of_bits binary32 0xbf80_0000
-
-abbrev four : Float
-four = of_bits binary32 0x4080_0000
+use Rattle.policy.proofs.Computing.{plain_searches, one, minus_one, four}
 
 -- D 1, n_sub 1, sub_bits 1, two rows; the sub-centres are -1 and 1, the query is 1, and k is 2
 abbrev ask : List ℕ → List ℕ → SearchIn
@@ -46,11 +33,6 @@ wild = 0 ∷ 200 ∷ []
 
 abbrev tame : List ℕ
 tame = 0 ∷ 1 ∷ []
-
--- what a search computes by
-searches : SearchIn → SearchOut
-unfolding search_outcome search_refusal search_tests search_worked cell_finite candidates any_not_finite width_of begin_of comes_before insert_by insert_all squared sum_to tab every keep of_bits add sub mul lt eq
-searches i = search_outcome i
 
 wild-tame-codes : CodesAlike 2 (1 ∷ 0 ∷ []) 1 wild tame
 wild-tame-codes m (suc s) h k = absurd (omega arith)
@@ -74,20 +56,20 @@ wild-tame-alike = record {
 
 -- row 0 is found, the second place is blank
 abbrev found0 : SearchOut
-found0 = search_out (Done 1 1) (0 ∷ blank_row ∷ []) (four ∷ zero32 ∷ []) (zero32 ∷ zero32 ∷ [])
+found0 = search_out (answer_of 1 1) (0 ∷ blank_row ∷ []) (four ∷ zero32 ∷ []) (zero32 ∷ zero32 ∷ [])
 
 pub tame-found : search_outcome (ask (1 ∷ 0 ∷ []) tame) ≡ found0
-unfolding searches
+unfolding plain_searches
 tame-found = refl
 
 pub wild-found : search_outcome (ask (1 ∷ 0 ∷ []) wild) ≡ found0
 wild-found = plain-row-policy (ask (1 ∷ 0 ∷ []) wild) (ask (1 ∷ 0 ∷ []) tame) wild-tame-alike ∙ tame-found
 
 -- shown, it is refused in the one index and found in the other
-pub wild-shown : (search_outcome (ask (1 ∷ 1 ∷ []) wild)).answer ≡ Refused 10
-unfolding searches
+pub wild-shown : (search_outcome (ask (1 ∷ 1 ∷ []) wild)).answer ≡ Err Damaged
+unfolding plain_searches
 wild-shown = refl
 
 pub tame-shown : (search_outcome (ask (1 ∷ 1 ∷ []) tame)).rows ≡ 1 ∷ 0 ∷ []
-unfolding searches
+unfolding plain_searches
 tame-shown = refl

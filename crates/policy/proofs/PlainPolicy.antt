@@ -3,16 +3,14 @@ use Prim.Native.Nat.{ℕ, ◌<◌}
 use mathlib.Core.Path.{◌≡◌, refl, ◌∙◌, ap}
 use mathlib.Core.List.{List}
 use lib.ListN.{length}
-use Rattle.lists.specs.Lists.{tab}
 use Rattle.lists.proofs.Tables.{length-tab, get_or-tab}
 use Rattle.cell_table.specs.Tables.{Cell}
-use Rattle.cell_codes.specs.Codes.{visible, visible_rows}
+use Rattle.cell_codes.specs.Codes.{visible_rows}
 use Rattle.cell_walk.specs.Results.{Lent}
 use Rattle.plain_search.specs.Outcome.{SearchIn, whole_cell, search_worked, search_refusal, search_outcome}
 use Rattle.policy.specs.Sight.{InSight, CodesAlike}
 use Rattle.policy.specs.PlainPolicy.{PlainAlike}
-use Rattle.policy.proofs.Standing.{keep-from}
-use Rattle.policy.proofs.Cells.{met, shown_at, ShownAlike, same-sound, same-finite, same-candidates}
+use Rattle.policy.proofs.Cells.{met, shown_at, shown-stands, ShownAlike, same-sound, same-finite, same-candidates}
 
 -- what a asks, of an index with other codes
 abbrev recoded : SearchIn → List ℕ → SearchIn
@@ -29,8 +27,7 @@ recoded a codes = record {
 module _ (a : SearchIn) where
   in-sight : (i : ℕ) → i < length (visible_rows (whole_cell a)) → InSight a.n a.mask (shown_at (whole_cell a) i)
   in-sight i h =
-      let all = tab (λ (m : ℕ). m) a.n in
-      let s = keep-from (visible a.mask) all (shown_at (whole_cell a) i) (i, record { within = h; held = refl }) in
+      let s = shown-stands (whole_cell a) i h in
       let p = s.0.0 in
       let w = rw (length-tab (λ (m : ℕ). m) a.n) at s.0.1.within in
       record { there = rw (← s.0.1.held, get_or-tab (λ (m : ℕ). m) a.n p 0 w) w; shown = s.1 }

@@ -1,6 +1,6 @@
 -- Demand 3: two searches of a celled index that differ in nothing that is visible have one outcome.
 use Prim.Native.Nat.{ℕ, ◌<◌}
-use mathlib.Core.Path.{◌≡◌, refl, sym, ◌∙◌, ap, ap₂, subst}
+use mathlib.Core.Path.{◌≡◌, sym, ◌∙◌, ap, ap₂, subst}
 use mathlib.Core.Bool.{Bool, true, cond, not}
 use mathlib.Core.List.{List}
 use native.Mathlib.Decide.{dec_lt}
@@ -10,6 +10,7 @@ use Rattle.lists.specs.Tests.{keep}
 use Rattle.lists.proofs.Joins.{join-ext}
 use Rattle.lists.proofs.Tests.{and_both, every_of, every-ext}
 use Rattle.neighbor.specs.declared.Candidate.{Candidate}
+use Rattle.answers.specs.declared.Refusal.TheVariants.{DistanceNotFinite}
 use Rattle.pq_params.specs.Codes.{codes_below}
 use Rattle.cell_codes.specs.Codes.{visible, visible_rows}
 use Rattle.cell_walk.specs.Candidates.{cell_finite, candidates}
@@ -20,17 +21,17 @@ use Rattle.celled_search.specs.Outcome.{SearchIn, search_refusal, search_worked,
 use Rattle.policy.specs.Check.{Passes, list_at}
 use Rattle.policy.specs.Sight.{InSight}
 use Rattle.policy.specs.Policy.{SameCells, SameCodes, AlikeInSight}
-use Rattle.policy.proofs.Standing.{keep-from, keep_same}
+use Rattle.policy.proofs.Standing.{keep_same}
 use Rattle.policy.proofs.Check.{starts-sound, codes-sound, long}
 use Rattle.policy.proofs.Passing.{checked, sound, no_cell, list_of, list-rising, row_below}
-use Rattle.policy.proofs.Cells.{shown_at, same-finite, same-candidates}
+use Rattle.policy.proofs.Cells.{shown_at, shown-stands, same-finite, same-candidates}
 
 -- ---- a search of an index that passes the whole check
 
 module _ (a : Asked) (passes : Passes a.index) where
   in-sight : (c i : ℕ) → i < length (visible_rows (cell_at a c)) → InSight a.index.n a.mask (shown_at (cell_at a c) i)
   in-sight c i h =
-      let s = keep-from (visible a.mask) (list_at a.index c) (shown_at (cell_at a c) i) (i, record { within = h; held = refl }) in
+      let s = shown-stands (cell_at a c) i h in
       record { there = row_below a.index passes c (shown_at (cell_at a c) i) s.0; shown = s.1 }
 
   cell-sound : (c : ℕ) → cell_sound a c ≡ true
@@ -45,7 +46,7 @@ module _ (a : Asked) (passes : Passes a.index) where
 
   -- it meets no damage: refusal 10 is not given
   pub undamaged : (l : Lent)
-      → search_worked a l ≡ cond (not (coarse_finite a)) (blank l 11) (cond (not (probed_finite a)) (blank l 11) (answered l (all_candidates a)))
+      → search_worked a l ≡ cond (not (coarse_finite a)) (blank l DistanceNotFinite) (cond (not (probed_finite a)) (blank l DistanceNotFinite) (answered l (all_candidates a)))
   unfolding search_worked
   undamaged l = rw (starts-sound a.index (sound a.index passes), probed-sound)
 
@@ -91,7 +92,7 @@ module _ (a : Asked) (x : Index) (first : Passes a.index) (second : Passes (reli
   unfolding probed_finite all_candidates
   same-worked l =
       undamaged a first l
-      ∙ ap₂ (λ (f : Bool) (cs : List Candidate). cond (not (coarse_finite a)) (blank l 11) (cond (not f) (blank l 11) (answered l cs)))
+      ∙ ap₂ (λ (f : Bool) (cs : List Candidate). cond (not (coarse_finite a)) (blank l DistanceNotFinite) (cond (not f) (blank l DistanceNotFinite) (answered l cs)))
       (every-ext (λ (p : ℕ). cell_finite (probed_cell a p)) _ (length (probed a)) (λ p h. cell-finite (probed_at a p)))
       (join-ext (λ (p : ℕ). candidates (probed_cell a p)) _ (length (probed a)) (λ p h. cell-candidates (probed_at a p)))
       ∙ sym (undamaged (relisted a x) second l)

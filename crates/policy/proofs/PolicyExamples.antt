@@ -5,27 +5,22 @@ use mathlib.Core.List.{List, [], ◌∷◌}
 use mathlib.Core.Bool.{false≢true}
 use native.Mathlib.Omega.{arith}
 use lib.ListN.{get_or, replicate}
-use lib.Ieee.{Float, binary32, of_bits, add, sub, mul, lt, eq}
-use Rattle.lists.specs.Lists.{part, tab, join}
-use Rattle.lists.specs.Tests.{every, count, keep, rising}
-use Rattle.metrics.specs.Distance.{zero32, sum_to, squared}
-use Rattle.neighbor.specs.Neighbor.{comes_before, insert_by, insert_all, blank_row}
-use Rattle.answers.specs.declared.Searched.TheVariants.{Done, Refused}
-use Rattle.answers.specs.declared.Checked.TheVariants.{Refused as CheckRefused}
-use Rattle.pq_params.specs.Ranges.{width_of, begin_of}
-use Rattle.pq_params.specs.Refusals.{any_not_finite, search_tests, check_tests}
-use Rattle.cell_walk.specs.Candidates.{cell_finite, candidates}
-use Rattle.cell_walk.specs.Results.{SearchOut, lent, search_out}
+use lib.Ieee.{Float, binary32, of_bits}
+use Rattle.std.specs.Prelude.{Err}
+use Rattle.lists.specs.Lists.{part}
+use Rattle.lists.specs.Tests.{count}
+use Rattle.metrics.specs.Distance.{zero32}
+use Rattle.neighbor.specs.Neighbor.{blank_row}
+use Rattle.answers.specs.declared.Refusal.TheVariants.{Damaged, DistanceNotFinite}
+use Rattle.cell_walk.specs.Results.{SearchOut, lent, answer_of, search_out}
 use Rattle.celled_lists.specs.Index.{Index}
-use Rattle.celled_lists.specs.Lists.{starts_sound, list_sound}
-use Rattle.celled_check.specs.Check.{CheckIn, CheckOut, check_in, index_sound, check_outcome}
-use Rattle.celled_probe.specs.Probe.{finite_cells, nearest_cells}
-use Rattle.probed_cells.specs.Search.{probed_sound, probed_finite, all_candidates}
-use Rattle.celled_search.specs.Outcome.{SearchIn, search_refusal, search_worked, search_outcome}
+use Rattle.celled_check.specs.Check.{check_in, check_outcome}
+use Rattle.celled_search.specs.Outcome.{SearchIn, search_outcome}
 use Rattle.policy.specs.Check.{Passes, list_at}
 use Rattle.policy.specs.Policy.{SameCells, SameCodes, AlikeInSight}
 use Rattle.policy.proofs.Check.{stands_alike}
 use Rattle.policy.proofs.Policy.{lent_for, relisted, row-policy}
+use Rattle.policy.proofs.Computing.{celled_searches, checks, one, minus_one, four, sixteen}
 
 -- two searches of which the one has the other's parameters, centres, query, mask and buffers
 alike_of : (a : SearchIn) (x : Index) → Passes a.asked.index → Passes (relisted a.asked x).index → SameCells a.asked x → SameCodes a.asked x
@@ -48,32 +43,11 @@ alike_of a x f g cells codes = record {
   same_codes = codes;
 }
 
--- what a search and a whole check compute by
-searches : SearchIn → SearchOut
-unfolding search_outcome search_refusal search_tests search_worked starts_sound list_sound finite_cells nearest_cells probed_sound probed_finite all_candidates cell_finite candidates part tab join every rising keep squared sum_to comes_before insert_by insert_all width_of begin_of any_not_finite of_bits add sub mul lt eq
-searches i = search_outcome i
-
-checks : CheckIn → CheckOut
-unfolding check_outcome check_tests index_sound starts_sound list_sound part every rising count tab begin_of width_of
-checks i = check_outcome i
-
 -- two equal outcomes have one row in the first place
 first-row : {o p : SearchOut} {k l : List ℕ} → o.rows ≡ k → p.rows ≡ l → o ≡ p → get_or k 0 0 ≡ get_or l 0 0
 first-row f g e = ap (λ (l : List ℕ). get_or l 0 0) (sym f ∙ ap (λ (o : SearchOut). o.rows) e ∙ g)
 
 -- ---- a hidden row's cell and code
-
-abbrev one : Float
-one = of_bits binary32 0x3f80_0000
-
-abbrev minus_one : Float
-minus_one = of_bits binary32 0xbf80_0000
-
-abbrev four : Float
-four = of_bits binary32 0x4080_0000
-
-abbrev sixteen : Float
-sixteen = of_bits binary32 0x4180_0000
 
 -- D 1, n_sub 1, sub_bits 1, two cells with the centres 0 and 4, both probed, three rows; the sub-centres of both cells are -1 and 1
 abbrev index_of : List ℕ → List ℕ → List ℕ → Index
@@ -136,10 +110,10 @@ near-far-alike = alike_of (ask hides1 near) far near-passes far-passes near-far-
 
 -- rows 2 and 0 are found, the third place is blank
 abbrev found20 : SearchOut
-found20 = search_out (Done 2 2) (2 ∷ 0 ∷ blank_row ∷ []) (four ∷ sixteen ∷ zero32 ∷ []) (zero32 ∷ zero32 ∷ [])
+found20 = search_out (answer_of 2 2) (2 ∷ 0 ∷ blank_row ∷ []) (four ∷ sixteen ∷ zero32 ∷ []) (zero32 ∷ zero32 ∷ [])
 
 pub near-found : search_outcome (ask hides1 near) ≡ found20
-unfolding searches
+unfolding celled_searches
 near-found = refl
 
 pub far-found : search_outcome (ask hides1 far) ≡ found20
@@ -147,11 +121,11 @@ far-found = sym (row-policy (ask hides1 near) (ask hides1 far) near-far-alike) �
 
 -- With all rows shown the two differ: a search that looked at the hidden row's cell or code would answer by it.
 pub near-shown : (search_outcome (ask (1 ∷ 1 ∷ 1 ∷ []) near)).rows ≡ 1 ∷ 2 ∷ 0 ∷ []
-unfolding searches
+unfolding celled_searches
 near-shown = refl
 
 pub far-shown : (search_outcome (ask (1 ∷ 1 ∷ 1 ∷ []) far)).rows ≡ 2 ∷ 0 ∷ 1 ∷ []
-unfolding searches
+unfolding celled_searches
 far-shown = refl
 
 pub shown-differ : search_outcome (ask (1 ∷ 1 ∷ 1 ∷ []) near) ≡ search_outcome (ask (1 ∷ 1 ∷ 1 ∷ []) far) → ⊥
@@ -176,11 +150,11 @@ unfolding checks
 moved_passes = record { work = replicate 1027 0; accepted = refl }
 
 recoded-rows : (search_outcome (ask hides1 recoded)).rows ≡ 0 ∷ 2 ∷ blank_row ∷ []
-unfolding searches
+unfolding celled_searches
 recoded-rows = refl
 
 moved-rows : (search_outcome (ask hides1 moved)).rows ≡ 0 ∷ 2 ∷ blank_row ∷ []
-unfolding searches
+unfolding celled_searches
 moved-rows = refl
 
 pub code-matters : search_outcome (ask hides1 near) ≡ search_outcome (ask hides1 recoded) → ⊥
@@ -243,22 +217,22 @@ loud-quiet-alike = alike_of (ask_pair (1 ∷ 0 ∷ []) loud) quiet loud-passes q
 
 -- hidden, it refuses nothing: row 0 is found in both
 abbrev found0 : SearchOut
-found0 = search_out (Done 1 1) (0 ∷ []) (zero32 ∷ []) (zero32 ∷ zero32 ∷ zero32 ∷ zero32 ∷ [])
+found0 = search_out (answer_of 1 1) (0 ∷ []) (zero32 ∷ []) (zero32 ∷ zero32 ∷ zero32 ∷ zero32 ∷ [])
 
 pub loud-found : search_outcome (ask_pair (1 ∷ 0 ∷ []) loud) ≡ found0
-unfolding searches
+unfolding celled_searches
 loud-found = refl
 
 pub quiet-found : search_outcome (ask_pair (1 ∷ 0 ∷ []) quiet) ≡ found0
 quiet-found = sym (row-policy (ask_pair (1 ∷ 0 ∷ []) loud) (ask_pair (1 ∷ 0 ∷ []) quiet) loud-quiet-alike) ∙ loud-found
 
 -- shown, it is refused in the one index and found in the other
-pub loud-shown : (search_outcome (ask_pair (1 ∷ 1 ∷ []) loud)).answer ≡ Refused 11
-unfolding searches
+pub loud-shown : (search_outcome (ask_pair (1 ∷ 1 ∷ []) loud)).answer ≡ Err DistanceNotFinite
+unfolding celled_searches
 loud-shown = refl
 
-pub quiet-shown : (search_outcome (ask_pair (1 ∷ 1 ∷ []) quiet)).answer ≡ Done 1 2
-unfolding searches
+pub quiet-shown : (search_outcome (ask_pair (1 ∷ 1 ∷ []) quiet)).answer ≡ answer_of 1 2
+unfolding celled_searches
 quiet-shown = refl
 
 -- ---- an index that the whole check refuses: row 0 stands in both cells, and comes twice
@@ -266,10 +240,10 @@ quiet-shown = refl
 abbrev doubled : Index
 doubled = index_of (0 ∷ 2 ∷ 3 ∷ []) (0 ∷ 1 ∷ 0 ∷ []) (1 ∷ 0 ∷ 0 ∷ [])
 
-pub doubled-refused : (check_outcome (check_in doubled (replicate 1027 0))).answer ≡ CheckRefused 10
+pub doubled-refused : (check_outcome (check_in doubled (replicate 1027 0))).answer ≡ Err Damaged
 unfolding checks
 doubled-refused = refl
 
 pub doubled-rows : (search_outcome (ask (1 ∷ 1 ∷ 1 ∷ []) doubled)).rows ≡ 0 ∷ 1 ∷ 0 ∷ []
-unfolding searches
+unfolding celled_searches
 doubled-rows = refl

@@ -22,12 +22,14 @@ module _ {o p : SearchOut} (e : o ≡ p) where
     table = ap (λ (t : SearchOut). t.table) e;
   }
 
--- o and p are what two searches answer and leave in the lent buffers
+-- o and p are what two searches of equal outcomes answer and leave in the lent buffers
+promised : {x y o p : SearchOut} → o ≡ x → p ≡ y → x ≡ y → (o ≡ p) × SameResults o p
+promised f g e = let h = f ∙ e ∙ sym g in (h, same-results h)
 
 pub celled-promised : (a b : Celled.SearchIn) (o p : SearchOut) → o ≡ Celled.search_outcome a → p ≡ Celled.search_outcome b → AlikeInSight a b
     → (o ≡ p) × SameResults o p
-celled-promised a b o p f g e = let h = f ∙ row-policy a b e ∙ sym g in (h, same-results h)
+celled-promised a b o p f g e = promised f g (row-policy a b e)
 
 pub plain-promised : (a b : Plain.SearchIn) (o p : SearchOut) → o ≡ Plain.search_outcome a → p ≡ Plain.search_outcome b → PlainAlike a b
     → (o ≡ p) × SameResults o p
-plain-promised a b o p f g e = let h = f ∙ plain-row-policy a b e ∙ sym g in (h, same-results h)
+plain-promised a b o p f g e = promised f g (plain-row-policy a b e)

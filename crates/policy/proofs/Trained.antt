@@ -5,19 +5,15 @@ use mathlib.Core.Bool.{Bool, true, false, cond}
 use mathlib.Core.List.{List}
 use native.Mathlib.Nat.{zero-mul, suc-mul}
 use native.Mathlib.Numerals.{add-one}
-use native.Mathlib.Omega.{arith}
-use borrow.Author.Tests.{eqb-true}
 use lib.ListN.{length}
 use lib.Dec.{eqb}
+use Rattle.std.specs.Prelude.{Ok, Err}
 use Rattle.lists.specs.Lists.{fill}
 use Rattle.lists.proofs.Tables.{length-tab}
 use Rattle.lists.proofs.Tests.{or_l}
 use Rattle.lists.proofs.Joins.{Begins, length-join, length-grid, get_or-grid}
 use Rattle.metrics.specs.Distance.{zero32}
-use Rattle.answers.specs.declared.Checked.TheVariants.{Accepted}
-use Rattle.answers.specs.declared.Trained.{Trained}
-use Rattle.answers.specs.declared.Trained.TheVariants.{Done, Refused, OutOfDraws, NotFinite}
-use Rattle.answers.specs.Answers.{ended}
+use Rattle.answers.specs.Answers.{Trained, ended}
 use Rattle.pq_params.specs.Bounds.{bad_celled, bad_epochs, centers_of}
 use Rattle.pq_params.specs.Codes.{code_at}
 use Rattle.pq_params.specs.Lengths.{subs_long}
@@ -35,6 +31,7 @@ use Rattle.celled_train.specs.Outcome.{TrainIn, TrainOut, given_of, train_refusa
 use Rattle.celled_search.specs.Outcome.{SearchIn, search_outcome}
 use Rattle.policy.specs.Check.{Passes, Acceptable, probing}
 use Rattle.policy.specs.Results.{NoRowTwice}
+use Rattle.policy.proofs.Unless.{unless_done}
 use Rattle.policy.proofs.Check.{bounds_of, accepts-exact}
 use Rattle.policy.proofs.Passing.{passes-probing}
 use Rattle.policy.proofs.Filled.{filled-order}
@@ -87,47 +84,40 @@ module _ (g : Given) (good : bad_celled g.shape ≡ false) where
 
 -- ---- a training that succeeds
 
--- only the end of all steps says Done
+-- only the end of all steps says Ok
 module _ (i : TrainIn) (used : ℕ) where
-  ended-done : (t : Trained) → (ended t (train_done i) (train_zero i)).answer ≡ Done used → (ended t (train_done i) (train_zero i)).index ≡ trained_index (given_of i)
-  ended-done (Done u) e = refl
-  ended-done (Refused n) e = let z : ◌≡◌ {A = ℕ} 0 1 = cc in absurd (omega arith)
-  ended-done (OutOfDraws stage epoch center) e = let z : ◌≡◌ {A = ℕ} 0 1 = cc in absurd (omega arith)
-  ended-done (NotFinite stage step epoch center) e = let z : ◌≡◌ {A = ℕ} 0 1 = cc in absurd (omega arith)
+  ended-done : (t : Trained) → (ended t (train_done i) (train_zero i)).answer ≡ Ok used → (ended t (train_done i) (train_zero i)).index ≡ trained_index (given_of i)
+  ended-done (Ok u) e = refl
+  ended-done (Err u) e = cc
 
-  tests-done : (b : Bool) (o : TrainOut) (n : ℕ) → (cond b o (train_unchanged i n)).answer ≡ Done used
-      → (b ≡ true) × (o.answer ≡ Done used) × ((cond b o (train_unchanged i n)).index ≡ o.index)
-  tests-done true o n e = (refl, e, refl)
-  tests-done false o n e = let z : ◌≡◌ {A = ℕ} 0 1 = cc in absurd (omega arith)
-
-  tests-passed : (train_outcome i).answer ≡ Done used → train_refusal i ≡ 0
+  tests-done : (train_outcome i).answer ≡ Ok used → (train_refusal i ≡ Ok tt) × ((train_ended i).answer ≡ Ok used)
   unfolding train_outcome
-  tests-passed e = eqb-true (train_refusal i) 0 (tests-done (eqb (train_refusal i) 0) (train_ended i) (train_refusal i) e).0
+  tests-done = unless_done (λ (o : TrainOut). o.answer ≡ Ok used) (train_refusal i) (train_ended i) (train_unchanged i) (λ r h. cc)
 
-  index-made : (train_outcome i).answer ≡ Done used → (train_outcome i).index ≡ trained_index (given_of i)
+  index-made : (train_outcome i).answer ≡ Ok used → (train_outcome i).index ≡ trained_index (given_of i)
   unfolding train_outcome
   index-made e =
-      let t = tests-done (eqb (train_refusal i) 0) (train_ended i) (train_refusal i) e in
-      t.2 ∙ ended-done (reached_cell (given_of i) i.index.shape.cells) t.1
+      let t = tests-done e in
+      rw t.0 (ended-done (reached_cell (given_of i) i.index.shape.cells) t.1)
 
   -- The whole check accepts what it made, whatever work of the right length it is lent.
-  pub trained-accepted : (train_outcome i).answer ≡ Done used → (work : List ℕ) → length work ≡ i.index.n + 1024
-      → (check_outcome (check_in (train_outcome i).index work)).answer ≡ Accepted
+  pub trained-accepted : (train_outcome i).answer ≡ Ok used → (work : List ℕ) → length work ≡ i.index.n + 1024
+      → (check_outcome (check_in (train_outcome i).index work)).answer ≡ Ok tt
   unfolding train_refusal
   trained-accepted e work long =
-      let passed = train-passed _ _ _ _ _ (tests-passed e) in
+      let passed = train-passed _ _ _ _ _ (tests-done e).0 in
       rw (index-made e)
       ((accepts-exact (check_in (trained_index (given_of i)) work)).1
       (made-acceptable (given_of i) (or_l (bad_celled i.index.shape) (bad_epochs i.epochs) passed.good) work passed.rows_few long))
 
-  pub trained-passes : (train_outcome i).answer ≡ Done used → Passes (train_outcome i).index
+  pub trained-passes : (train_outcome i).answer ≡ Ok used → Passes (train_outcome i).index
   trained-passes e = record {
     work = fill {A = ℕ} 0 (i.index.n + 1024);
     accepted = trained-accepted e (fill {A = ℕ} 0 (i.index.n + 1024)) (length-tab (λ (j : ℕ). 0) (i.index.n + 1024));
   }
 
   -- In a search of it, whatever number of its cells is probed, no row comes twice.
-  pub trained-no-row-twice : (train_outcome i).answer ≡ Done used → (j : SearchIn) → j.asked.index ≡ probing (train_outcome i).index j.asked.index.shape.probes
+  pub trained-no-row-twice : (train_outcome i).answer ≡ Ok used → (j : SearchIn) → j.asked.index ≡ probing (train_outcome i).index j.asked.index.shape.probes
       → 1 ≤ j.asked.index.shape.probes → j.asked.index.shape.probes ≤ (train_outcome i).index.shape.cells → NoRowTwice (search_outcome j)
   trained-no-row-twice e j same least most =
       no-row-twice j (subst Passes (sym same) (passes-probing (train_outcome i).index j.asked.index.shape.probes least most (trained-passes e)))

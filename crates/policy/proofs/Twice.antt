@@ -7,8 +7,8 @@ use native.Mathlib.Decide.{dec_lt}
 use native.Mathlib.Omega.{arith}
 use lib.ListN.{length, get_or, take, length-take, length-map, get_or-append}
 use lib.Seq.{get_or-take}
-use lib.Dec.{eqb}
 use lib.Ieee.{Float}
+use Rattle.answers.specs.declared.Refusal.TheVariants.{DistanceNotFinite}
 use Rattle.lists.specs.Lists.{tab, fill, join}
 use Rattle.lists.proofs.Tables.{map-tab, length-tab, get_or-tab}
 use Rattle.lists.proofs.TakeDrop.{map-take}
@@ -28,6 +28,7 @@ use Rattle.probed_cells.specs.Search.{Asked, cell_at, coarse_distance, probed, p
 use Rattle.celled_search.specs.Outcome.{SearchIn, search_refusal, search_outcome}
 use Rattle.policy.specs.Check.{Passes, HoldsAt, StandsIn, list_at}
 use Rattle.policy.specs.Results.{NoRowTwice}
+use Rattle.policy.proofs.Unless.{unless_all}
 use Rattle.policy.proofs.Standing.{in_head, in_tail, in-cases, not-in-nil, rises-from, keep-from}
 use Rattle.policy.proofs.Check.{starts-sound}
 use Rattle.policy.proofs.Passing.{checked, sound, no_cell, list-rising, row_below}
@@ -54,12 +55,11 @@ places-distinct (x ∷ l) u = (
 )
 
 distinct-take : (k : ℕ) (l : List ℕ) → Distinct l → Distinct (take k l)
-distinct-take k l d = places-distinct (take k l) go
-  where
-    go : (p q : ℕ) → p < length (take k l) → q < length (take k l) → get_or (take k l) p 0 ≡ get_or (take k l) q 0 → p ≡ q
-    go p q h j e =
-        let w = length-take k l in
-        distinct-places l d p q (omega arith) (omega arith) (sym (get_or-take k l p 0 (omega arith)) ∙ e ∙ get_or-take k l q 0 (omega arith))
+distinct-take k l d =
+    places-distinct (take k l)
+    (λ p q h j e.
+    let w = length-take k l in
+    distinct-places l d p q (omega arith) (omega arith) (sym (get_or-take k l p 0 (omega arith)) ∙ e ∙ get_or-take k l q 0 (omega arith)))
 
 rises-distinct : (l : List ℕ) (b : ℕ) → Rises b l → Distinct l
 rises-distinct [] b r = tt
@@ -171,13 +171,11 @@ module _ (x : Index) (passes : Passes x) where
 -- ---- no row comes twice
 
 tab-distinct : (n : ℕ) → Distinct (tab (λ (c : ℕ). c) n)
-tab-distinct n = places-distinct (tab (λ (c : ℕ). c) n) go
-  where
-    go : (p q : ℕ) → p < length (tab (λ (c : ℕ). c) n) → q < length (tab (λ (c : ℕ). c) n)
-        → get_or (tab (λ (c : ℕ). c) n) p 0 ≡ get_or (tab (λ (c : ℕ). c) n) q 0 → p ≡ q
-    go p q h k e =
-        let w = length-tab (λ (c : ℕ). c) n in
-        sym (get_or-tab (λ (c : ℕ). c) n p 0 (omega arith)) ∙ e ∙ get_or-tab (λ (c : ℕ). c) n q 0 (omega arith)
+tab-distinct n =
+    places-distinct (tab (λ (c : ℕ). c) n)
+    (λ p q h k e.
+    let w = length-tab (λ (c : ℕ). c) n in
+    sym (get_or-tab (λ (c : ℕ). c) n p 0 (omega arith)) ∙ e ∙ get_or-tab (λ (c : ℕ). c) n q 0 (omega arith))
 
 -- no cell is probed twice
 nearest-distinct : (f : ℕ → Float) (cells probes : ℕ) → Distinct (nearest_cells f cells probes)
@@ -223,10 +221,9 @@ pub no-row-twice : (i : SearchIn) → Passes i.asked.index → NoRowTwice (searc
 unfolding search_outcome
 no-row-twice i passes =
     let l = i.lent in
-    let refused : (n : ℕ) → NoRowTwice (unchanged l n) = λ n p q h k e. absurd (omega arith) in
-    let blanked : (n : ℕ) → NoRowTwice (blank l n) = λ n p q h k e. absurd (omega arith) in
-    either NoRowTwice (eqb (search_refusal i) 0) _ _
+    let blanked : NoRowTwice (blank l DistanceNotFinite) = λ p q h k e. absurd (omega arith) in
+    unless_all NoRowTwice (search_refusal i) _ (unchanged l)
     (rw (undamaged i.asked passes l)
-    (either NoRowTwice (not (coarse_finite i.asked)) _ _ (blanked 11)
-    (either NoRowTwice (not (probed_finite i.asked)) _ _ (blanked 11) (answered-once l (all_candidates i.asked) (all-distinct i.asked passes)))))
-    (refused (search_refusal i))
+    (either NoRowTwice (not (coarse_finite i.asked)) _ _ blanked
+    (either NoRowTwice (not (probed_finite i.asked)) _ _ blanked (answered-once l (all_candidates i.asked) (all-distinct i.asked passes)))))
+    (λ r p q h k e. absurd (omega arith))

@@ -1,6 +1,5 @@
 -- What the whole check accepts, in plain statements.
-use Rattle.std.specs.Prelude.{ℕ, suc, ◌+◌, ◌*◌, ◌≤◌, ◌<◌, ◌≡◌, List, length, get_or}
-use Rattle.answers.specs.declared.Checked.TheVariants.{Accepted}
+use Rattle.std.specs.Prelude.{ℕ, suc, ◌+◌, ◌*◌, ◌≤◌, ◌<◌, ◌≡◌, Ok, List, length, get_or}
 use Rattle.pq_params.specs.Bounds.{centers_of}
 use Rattle.pq_params.specs.Ranges.{covered_of}
 use Rattle.pq_params.specs.Codes.{code_at}
@@ -11,7 +10,7 @@ use Rattle.celled_check.specs.Check.{CheckIn, check_in, check_outcome}
 -- x passes the whole check, which is lent a work buffer
 pub record Passes (x : Index) : Type 0 where
   pub work : List ℕ
-  pub accepted : (check_outcome (check_in x work)).answer ≡ Accepted
+  pub accepted : (check_outcome (check_in x work)).answer ≡ Ok tt
 
 -- the bounds of the parameters and of the row count
 pub record InBounds (x : Index) : Type 0 where

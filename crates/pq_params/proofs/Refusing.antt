@@ -8,20 +8,24 @@ use borrow.Author.Tests.{eqb-true, eqb-false, ltb-false, not-false}
 use lib.ListN.{length}
 use lib.Dec.{eqb}
 use lib.Ieee.{Float}
+use Rattle.std.specs.Prelude.{Ok, Err}
+use Rattle.answers.specs.declared.Refusal.{Refusal}
+use Rattle.answers.specs.declared.Refusal.TheVariants.{NumbersOutOfBounds, NoRows, TooManyRows, WrongLength, TooManyAsked, NotFinite, DrawOutOfRange}
+use Rattle.answers.specs.Answers.{Checked}
 use Rattle.pq_params.specs.declared.Shape.{Shape}
 use Rattle.pq_params.specs.declared.CelledShape.{CelledShape}
 use Rattle.pq_params.specs.Bounds.{bad_plain, bad_celled, too_many_rows, too_much_asked}
 use Rattle.pq_params.specs.Lengths.{plain_of, plain_lengths, celled_of, celled_lengths}
 use Rattle.pq_params.specs.Refusals.{not_long, any_not_finite, any_draw_out, train_tests, search_tests, check_tests}
 
--- a number that is picked by a test and is 0: the test fails, and so on
-pub pick-l : (b : Bool) (x y : ℕ) → cond b (suc x) y ≡ 0 → b ≡ false
-pick-l true x y h = absurd (omega arith)
-pick-l false x y h = refl
+-- a refusal that is picked by a test, and none is: the test fails, and so on
+pub pick-l : (b : Bool) (r : Refusal) (y : Checked) → cond b (Err r) y ≡ Ok tt → b ≡ false
+pick-l true r y h = cc
+pick-l false r y h = refl
 
-pub pick-r : (b : Bool) (x y : ℕ) → cond b (suc x) y ≡ 0 → y ≡ 0
-pick-r true x y h = absurd (omega arith)
-pick-r false x y h = h
+pub pick-r : (b : Bool) (r : Refusal) (y : Checked) → cond b (Err r) y ≡ Ok tt → y ≡ Ok tt
+pick-r true r y h = cc
+pick-r false r y h = h
 
 -- a buffer that passes test 4 has its length
 pub same-long : {A : Type 0} (l : List A) (n : ℕ) → not_long l n ≡ false → length l ≡ n
@@ -41,21 +45,21 @@ pub record TrainPassed (bad : Bool) (n : ℕ) (wrong : Bool) (rows draws : List 
   pub finite : any_not_finite rows ≡ false
   pub drawn : any_draw_out draws ≡ false
 
-pub train-passed : (bad : Bool) (n : ℕ) (wrong : Bool) (rows draws : List Float) → train_tests bad n wrong rows draws ≡ 0 → TrainPassed bad n wrong rows draws
+pub train-passed : (bad : Bool) (n : ℕ) (wrong : Bool) (rows draws : List Float) → train_tests bad n wrong rows draws ≡ Ok tt → TrainPassed bad n wrong rows draws
 unfolding train_tests
 train-passed bad n wrong rows draws h =
-    let h2 = pick-r bad 0 _ h in
-    let h3 = pick-r (eqb n 0) 1 _ h2 in
-    let h4 = pick-r (too_many_rows n) 2 _ h3 in
-    let h6 = pick-r wrong 3 _ h4 in
-    let h7 = pick-r (any_not_finite rows) 5 _ h6 in
+    let h2 = pick-r bad NumbersOutOfBounds _ h in
+    let h3 = pick-r (eqb n 0) NoRows _ h2 in
+    let h4 = pick-r (too_many_rows n) TooManyRows _ h3 in
+    let h6 = pick-r wrong WrongLength _ h4 in
+    let h7 = pick-r (any_not_finite rows) NotFinite _ h6 in
     record {
-      good = pick-l bad 0 _ h;
-      some-row = some n (eqb-false n 0 (pick-l (eqb n 0) 1 _ h2));
-      rows_few = ltb-false 100_001 n (pick-l (too_many_rows n) 2 _ h3);
-      right = pick-l wrong 3 _ h4;
-      finite = pick-l (any_not_finite rows) 5 _ h6;
-      drawn = pick-l (any_draw_out draws) 6 _ h7;
+      good = pick-l bad NumbersOutOfBounds _ h;
+      some-row = some n (eqb-false n 0 (pick-l (eqb n 0) NoRows _ h2));
+      rows_few = ltb-false 100_001 n (pick-l (too_many_rows n) TooManyRows _ h3);
+      right = pick-l wrong WrongLength _ h4;
+      finite = pick-l (any_not_finite rows) NotFinite _ h6;
+      drawn = pick-l (any_draw_out draws) DrawOutOfRange _ h7;
     }
 
 pub record SearchPassed (bad : Bool) (n : ℕ) (wrong : Bool) (k : ℕ) (query : List Float) : Type 0 where
@@ -65,19 +69,19 @@ pub record SearchPassed (bad : Bool) (n : ℕ) (wrong : Bool) (k : ℕ) (query :
   pub places-few : k ≤ 4_096
   pub finite : any_not_finite query ≡ false
 
-pub search-passed : (bad : Bool) (n : ℕ) (wrong : Bool) (k : ℕ) (query : List Float) → search_tests bad n wrong k query ≡ 0 → SearchPassed bad n wrong k query
+pub search-passed : (bad : Bool) (n : ℕ) (wrong : Bool) (k : ℕ) (query : List Float) → search_tests bad n wrong k query ≡ Ok tt → SearchPassed bad n wrong k query
 unfolding search_tests
 search-passed bad n wrong k query h =
-    let h3 = pick-r bad 0 _ h in
-    let h4 = pick-r (too_many_rows n) 2 _ h3 in
-    let h5 = pick-r wrong 3 _ h4 in
-    let h6 = pick-r (too_much_asked k) 4 _ h5 in
+    let h3 = pick-r bad NumbersOutOfBounds _ h in
+    let h4 = pick-r (too_many_rows n) TooManyRows _ h3 in
+    let h5 = pick-r wrong WrongLength _ h4 in
+    let h6 = pick-r (too_much_asked k) TooManyAsked _ h5 in
     record {
-      good = pick-l bad 0 _ h;
-      rows_few = ltb-false 100_001 n (pick-l (too_many_rows n) 2 _ h3);
-      right = pick-l wrong 3 _ h4;
-      places-few = ltb-false 4_096 k (pick-l (too_much_asked k) 4 _ h5);
-      finite = pick-l (any_not_finite query) 5 _ h6;
+      good = pick-l bad NumbersOutOfBounds _ h;
+      rows_few = ltb-false 100_001 n (pick-l (too_many_rows n) TooManyRows _ h3);
+      right = pick-l wrong WrongLength _ h4;
+      places-few = ltb-false 4_096 k (pick-l (too_much_asked k) TooManyAsked _ h5);
+      finite = pick-l (any_not_finite query) NotFinite _ h6;
     }
 
 pub record CheckPassed (bad : Bool) (n : ℕ) (wrong : Bool) : Type 0 where
@@ -85,24 +89,24 @@ pub record CheckPassed (bad : Bool) (n : ℕ) (wrong : Bool) : Type 0 where
   pub rows_few : n ≤ 100_001
   pub right : wrong ≡ false
 
-pub check-passed : (bad : Bool) (n : ℕ) (wrong : Bool) → check_tests bad n wrong ≡ 0 → CheckPassed bad n wrong
+pub check-passed : (bad : Bool) (n : ℕ) (wrong : Bool) → check_tests bad n wrong ≡ Ok tt → CheckPassed bad n wrong
 unfolding check_tests
 check-passed bad n wrong h =
-    let h3 = pick-r bad 0 _ h in
-    let h4 = pick-r (too_many_rows n) 2 _ h3 in
+    let h3 = pick-r bad NumbersOutOfBounds _ h in
+    let h4 = pick-r (too_many_rows n) TooManyRows _ h3 in
     record {
-      good = pick-l bad 0 _ h;
-      rows_few = ltb-false 100_001 n (pick-l (too_many_rows n) 2 _ h3);
-      right = pick-l wrong 3 _ h4;
+      good = pick-l bad NumbersOutOfBounds _ h;
+      rows_few = ltb-false 100_001 n (pick-l (too_many_rows n) TooManyRows _ h3);
+      right = pick-l wrong WrongLength _ h4;
     }
 
--- ---- a test 4 that is the right one where tests 1 and 3 pass gives the same number
+-- ---- a test 4 that is the right one where tests 1 and 3 pass gives the same refusal
 
 -- the code and the definition differ at most where an earlier test refuses
 abbrev Agree : Bool → ℕ → Bool → Bool → Type 0
 Agree bad n wrong other = bad ≡ false → too_many_rows n ≡ false → wrong ≡ other
 
-under : (b : Bool) (x : ℕ) (f : Bool → ℕ) (wrong other : Bool) → (b ≡ false → wrong ≡ other) → ◌≡◌ {A = ℕ} (cond b x (f wrong)) (cond b x (f other))
+under : (b : Bool) (x : Checked) (f : Bool → Checked) (wrong other : Bool) → (b ≡ false → wrong ≡ other) → ◌≡◌ {A = Checked} (cond b x (f wrong)) (cond b x (f other))
 under true x f wrong other h = refl
 under false x f wrong other h = ap f (h refl)
 
@@ -110,19 +114,19 @@ pub train-agree : (bad : Bool) (n : ℕ) (wrong other : Bool) (rows draws : List
 unfolding train_tests
 train-agree true n wrong other rows draws h = refl
 train-agree false n wrong other rows draws h =
-    ap (λ (y : ℕ). cond (eqb n 0) 2 y)
-    (under (too_many_rows n) 3 (λ (w : Bool). cond w 4 (cond (any_not_finite rows) 6 (cond (any_draw_out draws) 7 0))) wrong other (h refl))
+    ap (λ (y : Checked). cond (eqb n 0) (Err NoRows) y)
+    (under (too_many_rows n) (Err TooManyRows) (λ (w : Bool). cond w (Err WrongLength) (cond (any_not_finite rows) (Err NotFinite) (cond (any_draw_out draws) (Err DrawOutOfRange) (Ok tt)))) wrong other (h refl))
 
 pub search-agree : (bad : Bool) (n : ℕ) (wrong other : Bool) (k : ℕ) (query : List Float) → Agree bad n wrong other → search_tests bad n wrong k query ≡ search_tests bad n other k query
 unfolding search_tests
 search-agree true n wrong other k query h = refl
 search-agree false n wrong other k query h =
-    under (too_many_rows n) 3 (λ (w : Bool). cond w 4 (cond (too_much_asked k) 5 (cond (any_not_finite query) 6 0))) wrong other (h refl)
+    under (too_many_rows n) (Err TooManyRows) (λ (w : Bool). cond w (Err WrongLength) (cond (too_much_asked k) (Err TooManyAsked) (cond (any_not_finite query) (Err NotFinite) (Ok tt)))) wrong other (h refl)
 
 pub check-agree : (bad : Bool) (n : ℕ) (wrong other : Bool) → Agree bad n wrong other → check_tests bad n wrong ≡ check_tests bad n other
 unfolding check_tests
 check-agree true n wrong other h = refl
-check-agree false n wrong other h = under (too_many_rows n) 3 (λ (w : Bool). cond w 4 0) wrong other (h refl)
+check-agree false n wrong other h = under (too_many_rows n) (Err TooManyRows) (λ (w : Bool). cond w (Err WrongLength) (Ok tt)) wrong other (h refl)
 
 -- ---- the lengths where tests 1 and 3 pass
 

@@ -8,18 +8,20 @@ ghost use Rattle.pq_params.specs.Ranges.{width_of, begin_of, covered_of, ranges_
 ghost use Rattle.pq_params.specs.Lengths.{subs_long, table_long, plain_of, refused_plain, plain_lengths, celled_of, refused_celled, celled_lengths};
 ghost use Rattle.pq_params.specs.Refusals.{any_not_finite, any_draw_out, train_tests, search_tests, check_tests};
 
+use answers::Refusal;
+
 // The plain index's parameters.
 #[repr(C)]
-#[derive(Clone, Copy)]
+#[derive(Clone, Copy, Debug, PartialEq, Eq)]
 pub struct PQParams {
     pub n_sub: usize,
     pub sub_bits: usize,
     pub train_epoch: usize,
 }
 
-impl PQParams {
+impl Default for PQParams {
     // The Rust's defaults: 4 sub-spaces, 4 bits a code, 100 epochs.
-    pub fn default() -> Self
+    fn default() -> PQParams
         ensures { result ≡ plain_default }
     {
         PQParams {
@@ -32,7 +34,7 @@ impl PQParams {
 
 // The celled index's parameters: the plain ones, the number of cells and how many of them a search probes.
 #[repr(C)]
-#[derive(Clone, Copy)]
+#[derive(Clone, Copy, Debug, PartialEq, Eq)]
 pub struct IVFPQParams {
     pub n_sub: usize,
     pub sub_bits: usize,
@@ -41,9 +43,9 @@ pub struct IVFPQParams {
     pub train_epoch: usize,
 }
 
-impl IVFPQParams {
+impl Default for IVFPQParams {
     // The Rust's defaults: 25 sub-spaces, 4 bits a code, 256 cells, 8 probes, 100 epochs.
-    pub fn default() -> Self
+    fn default() -> IVFPQParams
         ensures { result ≡ celled_default }
     {
         IVFPQParams {
@@ -57,7 +59,7 @@ impl IVFPQParams {
 }
 
 // The numbers of a plain index: D coordinates, n_sub sub-spaces, sub_bits bits a code.
-#[derive(Clone, Copy)]
+#[derive(Clone, Copy, Debug, PartialEq, Eq)]
 pub struct Shape {
     pub d: usize,
     pub nsub: usize,
@@ -65,7 +67,7 @@ pub struct Shape {
 }
 
 // The numbers of a celled index: those of its sub-spaces, the cells, and how many of them a search probes.
-#[derive(Clone, Copy)]
+#[derive(Clone, Copy, Debug, PartialEq, Eq)]
 pub struct CelledShape {
     pub plain: Shape,
     pub cells: usize,
@@ -166,7 +168,7 @@ fn ranges_used(d: usize, nsub: usize) -> usize
     if bad_range(d, nsub) { 0 } else { nsub }
 }
 
-// Place i of the fixed list: range i's begin and end, or 0, 0.
+// Place i of document 01's fixed list: range i's begin and end, or 0, 0.
 pub fn range_at(d: usize, nsub: usize, i: usize) -> [usize; 2]
     ensures { result ≡ pair_at d nsub i }
 {
@@ -183,8 +185,8 @@ pub fn ranges(d: usize, nsub: usize) -> [[usize; 2]; 64]
     ensures { result ≡ ranges_of d nsub }
 {
     let mut out = [[0usize; 2]; 64];
-    for i in 0..64 {
-        out[i] = range_at(d, nsub, i);
+    for (i, pair) in out.iter_mut().enumerate() {
+        *pair = range_at(d, nsub, i);
     }
     out
 }
@@ -208,9 +210,9 @@ pub fn table_long(s: Shape) -> usize
     s.nsub * k
 }
 
-// The lengths of a plain index's buffers, in elements. The number is 0, or the refusal of the numbers and n; then all lengths are 0.
+// The lengths of a plain index's buffers, in elements, as C reads them. The number is 0, or the refusal of the numbers and n; then all lengths are 0.
 #[repr(C)]
-#[derive(Clone, Copy)]
+#[derive(Clone, Copy, Debug, PartialEq, Eq)]
 pub struct PlainLengths {
     pub number: u32,
     pub rows: usize,
@@ -264,9 +266,9 @@ pub fn plain_lengths(s: Shape, n: usize) -> PlainLengths
     plain_sizes(s, n)
 }
 
-// The lengths of a celled index's buffers, in elements. The number is 0, or the refusal of the numbers and n; then all lengths are 0.
+// The lengths of a celled index's buffers, in elements, as C reads them. The number is 0, or the refusal of the numbers and n; then all lengths are 0.
 #[repr(C)]
-#[derive(Clone, Copy)]
+#[derive(Clone, Copy, Debug, PartialEq, Eq)]
 pub struct CelledLengths {
     pub number: u32,
     pub rows: usize,
@@ -339,74 +341,85 @@ pub fn any_not_finite(s: &[f32]) -> bool
 pub fn any_draw_out(draws: &[f64]) -> bool
     ensures { result ≡ any_draw_out draws.now }
 {
-    for i in 0..draws.len() {
-        let d = draws[i];
-        if !((0.0 <= d) & (d < 1.0)) {
+    for d in draws {
+        if !((0.0 <= *d) & (*d < 1.0)) {
             return true;
         }
     }
     false
 }
 
-// The tests of a training, of which the caller made 1 and 4: the number of the first that refuses, or 0.
-pub fn train_refusal(bad: bool, n: usize, wrong: bool, rows: &[f32], draws: &[f64]) -> u32
+// The tests of a training, of which the caller made 1 and 4: the first that refuses.
+pub fn train_refusal(
+    bad: bool,
+    n: usize,
+    wrong: bool,
+    rows: &[f32],
+    draws: &[f64],
+) -> Result<(), Refusal>
     ensures { result ≡ train_tests bad n wrong rows.now draws.now }
 {
     if bad {
-        return 1;
+        return Err(Refusal::NumbersOutOfBounds);
     }
     if n == 0 {
-        return 2;
+        return Err(Refusal::NoRows);
     }
     if too_many_rows(n) {
-        return 3;
+        return Err(Refusal::TooManyRows);
     }
     if wrong {
-        return 4;
+        return Err(Refusal::WrongLength);
     }
     if any_not_finite(rows) {
-        return 6;
+        return Err(Refusal::NotFinite);
     }
     if any_draw_out(draws) {
-        return 7;
+        return Err(Refusal::DrawOutOfRange);
     }
-    0
+    Ok(())
 }
 
-// The tests of a search for k places, of which the caller made 1 and 4: the number of the first that refuses, or 0.
-pub fn search_refusal(bad: bool, n: usize, wrong: bool, k: usize, query: &[f32]) -> u32
+// The tests of a search for k places, of which the caller made 1 and 4: the first that refuses.
+pub fn search_refusal(
+    bad: bool,
+    n: usize,
+    wrong: bool,
+    k: usize,
+    query: &[f32],
+) -> Result<(), Refusal>
     ensures { result ≡ search_tests bad n wrong k query.now }
 {
     if bad {
-        return 1;
+        return Err(Refusal::NumbersOutOfBounds);
     }
     if too_many_rows(n) {
-        return 3;
+        return Err(Refusal::TooManyRows);
     }
     if wrong {
-        return 4;
+        return Err(Refusal::WrongLength);
     }
     if too_much_asked(k) {
-        return 5;
+        return Err(Refusal::TooManyAsked);
     }
     if any_not_finite(query) {
-        return 6;
+        return Err(Refusal::NotFinite);
     }
-    0
+    Ok(())
 }
 
-// The tests of the whole check, of which the caller made 1 and 4: the number of the first that refuses, or 0.
-pub fn check_refusal(bad: bool, n: usize, wrong: bool) -> u32
+// The tests of the whole check, of which the caller made 1 and 4: the first that refuses.
+pub fn check_refusal(bad: bool, n: usize, wrong: bool) -> Result<(), Refusal>
     ensures { result ≡ check_tests bad n wrong }
 {
     if bad {
-        return 1;
+        return Err(Refusal::NumbersOutOfBounds);
     }
     if too_many_rows(n) {
-        return 3;
+        return Err(Refusal::TooManyRows);
     }
     if wrong {
-        return 4;
+        return Err(Refusal::WrongLength);
     }
-    0
+    Ok(())
 }

@@ -1,36 +1,37 @@
 -- How the slices that are lent to a training hold a list of rows, and what its functions leave there.
-use Rattle.std.specs.Prelude.{ℕ, ◌+◌, ◌*◌, ◌≤◌, ◌<◌, ◌≡◌, List, true, false, length, get_or, Float}
+use Rattle.std.specs.Prelude.{ℕ, ◌+◌, ◌*◌, ◌≤◌, ◌<◌, ◌≡◌, List, Option, IfSome, Ok, option_copied, false, length, get_or, Float}
 use Rattle.std.specs.Float.{nan}
 use Rattle.lists.specs.Lists.{fill, part, put_part, member_of}
-use Rattle.metrics.specs.Distance.{zero32, value_of, value_in}
+use Rattle.metrics.specs.Distance.{zero32, value_of, value_in, residual_at}
 use Rattle.pq_params.specs.declared.Shape.{Shape}
 use Rattle.pq_params.specs.Bounds.{bad_plain, centers_of}
 use Rattle.pq_params.specs.Ranges.{begin_of, width_of, on_range}
 use Rattle.pq_params.specs.Lengths.{subs_long}
 use Rattle.kmeans_assign.specs.declared.Frame.{Frame}
-use Rattle.answers.specs.declared.Clustered.{Clustered}
-use Rattle.kmeans_assign.specs.Task.{Framed, Task, task_of as frame_task}
+use Rattle.kmeans_assign.specs.declared.Given.{Given}
+use Rattle.kmeans_assign.specs.Task.{FramedGiven, Task}
 use Rattle.kmeans.specs.Kmeans.{train}
 use Rattle.kmeans_assign.specs.Assign.{chosen}
 use Rattle.kmeans_split.specs.Split.{NotNegative}
 use Rattle.pq_train.specs.declared.RowList.{RowList}
-use Rattle.answers.specs.declared.Trained.{Trained}
-use Rattle.answers.specs.declared.Trained.TheVariants.{Done}
-use Rattle.answers.specs.Answers.{ended}
+use Rattle.answers.specs.Answers.{Clustered, Trained, ended}
 use Rattle.pq_train.specs.Training.{Listed, answer_of, sub_centers}
 
--- the value of the k-th row at coordinate j of D
-abbrev pub values_of : RowList → List Float → List ℕ → List Float → ℕ → ℕ → Float
-values_of l rows members center k j = value_of l.has (get_or rows (member_of l.listed members k * l.shape.d + j) nan) (get_or center j nan)
+-- the value of the k-th row at coordinate j of D, where rows are d wide
+abbrev pub values_in : ℕ → List Float → Option (List ℕ) → Option (List Float) → ℕ → ℕ → Float
+values_in d rows members center k j = value_of (residual_at center j) (get_or rows (member_of members k * d + j) nan)
 
-abbrev pub listed_of : RowList → List Float → List ℕ → List Float → List Float → ℕ → Listed
-listed_of l rows members center draws used = record {
+abbrev pub values_of : RowList → ℕ → ℕ → Float
+values_of l = values_in l.shape.d l.rows.now (option_copied l.members) (option_copied l.center)
+
+abbrev pub listed_of : RowList → List Float → ℕ → Listed
+listed_of l draws used = record {
   shape = l.shape;
   epochs = l.epochs;
   draws = draws;
   cell = l.cell;
   n = l.n;
-  value = values_of l rows members center;
+  value = values_of l;
   used = used;
 }
 
@@ -40,22 +41,20 @@ frame_of l s = record {
   d = l.shape.d;
   begin = begin_of l.shape.d l.shape.nsub s;
   w = width_of l.shape.d l.shape.nsub s;
-  listed = l.listed;
-  has = l.has;
   n = l.n;
   centers = centers_of l.shape.bits;
 }
 
--- the slices hold the list's rows, its residual and draws in range, within document 01's bounds
-pub record Listing (l : RowList) (rows : List Float) (members : List ℕ) (center draws : List Float) : Type 0 where
+-- the list holds its rows and its residual, and draws are in range, within document 01's bounds
+pub record Listing (l : RowList) (draws : List Float) : Type 0 where
   pub good : bad_plain l.shape ≡ false
   pub few-epochs : l.epochs ≤ 1000
   pub some-row : 0 < l.n
   pub rows-le : l.n ≤ 100_001
   pub cells-le : l.cell < 1024
-  pub center-long : l.shape.d ≤ length center
-  pub listed-long : l.listed ≡ true → l.n ≤ length members
-  pub held : (k : ℕ) → k < l.n → member_of l.listed members k * l.shape.d + l.shape.d ≤ length rows
+  pub center-long : IfSome (option_copied l.center) (λ c. l.shape.d ≤ length c)
+  pub listed-long : IfSome (option_copied l.members) (λ m. l.n ≤ length m)
+  pub held : (k : ℕ) → k < l.n → member_of (option_copied l.members) k * l.shape.d + l.shape.d ≤ length l.rows.now
   pub in-range : NotNegative draws
 
 -- the sub-centres and the assignments are as long as the list asks, and no more draws are used than lent
@@ -64,15 +63,10 @@ pub record Lent (l : RowList) (used : ℕ) (draws subs : List Float) (assigned :
   pub assigned-long : length assigned ≡ l.n
   pub drawn : used ≤ length draws
 
--- a frame that the slices hold, with the residual's range within the residual
-pub record FramedIn (f : Frame) (rows : List Float) (members : List ℕ) (center : List Float) : Type 0 where
-  pub framed : Framed f rows members (part center f.begin f.w)
-  pub center-holds : f.begin + f.w ≤ length center
-  pub centers-le : f.centers ≤ 256
-
--- the k-means of a frame, whose residual is the range's part of the list's
-abbrev pub range_task : Frame → List Float → List ℕ → List Float → ℕ → List Float → Task
-range_task f rows members center epochs draws = frame_task f rows members (part center f.begin f.w) epochs draws
+-- what is given for a sub-space is held, and has no more centres than a sub-space may
+pub record FramedIn (g : Given) : Type 0 where
+  pub framed : FramedGiven g
+  pub centers-le : g.frame.centers ≤ 256
 
 -- where the centres of sub-space s stand in the sub-centres of its list, and how long they are
 abbrev pub stretch_at : Shape → ℕ → ℕ
@@ -98,7 +92,7 @@ pub record RanAt (t : Task) (used at w : ℕ) (subs : List Float) (answer : Clus
 -- what all sub-spaces leave, where none refuses
 pub record Centered (l : Listed) (answer : Trained) (subs : List Float) : Type 0 where
   pub said : answer ≡ answer_of l
-  pub made : (used : ℕ) → answer ≡ Done used → subs ≡ sub_centers l
+  pub made : (used : ℕ) → answer ≡ Ok used → subs ≡ sub_centers l
 
 -- what the training of a list leaves: its sub-centres, or zeros where it is refused, and zeros for the assignments
 pub record ListOut : Type 0 where
@@ -117,20 +111,17 @@ list_outcome l long = record {
 }
 
 -- row m of the rows
-abbrev pub row_in : RowList → List Float → ℕ → List Float
-row_in l rows m = part rows (m * l.shape.d) l.shape.d
+abbrev pub row_in : Shape → List Float → ℕ → List Float
+row_in z rows m = part rows (m * z.d) z.d
 
--- a row, its residual and the sub-centres of its list are as long as the numbers say
-pub record Coding (l : RowList) (x center subs : List Float) : Type 0 where
-  pub good : bad_plain l.shape ≡ false
-  pub row-long : length x ≡ l.shape.d
-  pub center-long : l.shape.d ≤ length center
-  pub subs-long : length subs ≡ subs_long l.shape
+-- a row, the residual and the sub-centres of its list are as long as the numbers say
+pub record Coding (z : Shape) (x : List Float) (center : Option (List Float)) (subs : List Float) : Type 0 where
+  pub good : bad_plain z ≡ false
+  pub row-long : length x ≡ z.d
+  pub center-long : IfSome center (λ c. z.d ≤ length c)
+  pub subs-long : length subs ≡ subs_long z
 
 -- the code, in sub-space s, of a row x less the residual, against the sub-centres of its list
-unfoldable pub code_by : RowList → List Float → List Float → List Float → ℕ → ℕ
-code_by l x center subs s =
-    chosen (on_range l.shape.d l.shape.nsub s (value_in l.has x center))
-    (part subs (stretch_at l.shape s) (stretch_long l.shape s))
-    (width_of l.shape.d l.shape.nsub s)
-    (centers_of l.shape.bits)
+unfoldable pub code_by : Shape → List Float → Option (List Float) → List Float → ℕ → ℕ
+code_by z x center subs s =
+    chosen (on_range z.d z.nsub s (value_in center x)) (part subs (stretch_at z s) (stretch_long z s)) (width_of z.d z.nsub s) (centers_of z.bits)

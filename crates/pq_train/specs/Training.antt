@@ -1,5 +1,5 @@
 -- Training of one list of rows: the sub-spaces rising, draws running through.
-use Rattle.std.specs.Prelude.{ℕ, zero, suc, ◌+◌, ◌*◌, List, get_or, Float}
+use Rattle.std.specs.Prelude.{ℕ, zero, suc, ◌+◌, ◌*◌, List, Ok, get_or, Float}
 use Rattle.std.specs.Float.{nan}
 use Rattle.lists.specs.Lists.{join}
 use Rattle.pq_params.specs.Bounds.{centers_of}
@@ -8,10 +8,8 @@ use Rattle.pq_params.specs.Ranges.{width_of, on_range}
 use Rattle.kmeans_assign.specs.Task.{Task}
 use Rattle.kmeans.specs.Kmeans.{train}
 use Rattle.kmeans_assign.specs.Assign.{chosen}
-use Rattle.answers.specs.declared.Trained.{Trained}
-use Rattle.answers.specs.declared.Trained.TheVariants.{Done}
 use Rattle.answers.specs.declared.Stage.TheVariants.{Sub}
-use Rattle.answers.specs.Answers.{staged, go_on, draws_used}
+use Rattle.answers.specs.Answers.{Trained, staged, go_on, draws_used}
 
 -- one list of rows to train: the list of a cell, or all rows (plain: cell 0)
 pub record Listed : Type 0 where
@@ -41,7 +39,7 @@ task_of l s = record {
 
 -- the answer after the sub-spaces below s
 unfoldable pub reached : Listed → ℕ → Trained
-reached l zero = Done l.used
+reached l zero = Ok l.used
 reached l (suc s) = go_on (reached l s) (λ (used : ℕ). staged (Sub l.cell s) (train (task_of l s) used).answer)
 
 -- the centres of sub-space s, which begins with the draws that those before it left

@@ -1,40 +1,52 @@
 -- What the walks of the probed cells count on, and what they promise to the search as a whole.
-use Rattle.std.specs.Prelude.{ℕ, ◌+◌, ◌*◌, ◌≤◌, ◌<◌, ◌≡◌, List, [], Bool, true, false, cond, not, ◌&&◌, length, get_or, Float}
+use Rattle.std.specs.Prelude.{ℕ, ◌+◌, ◌*◌, ◌≤◌, ◌<◌, ◌≡◌, List, [], Option, Some, Bool, true, false, cond, not, length, get_or, Float}
+use Rattle.std.specs.Borrow.{Bor}
+use Rattle.answers.specs.declared.Refusal.TheVariants.{DistanceNotFinite}
 use Rattle.lists.specs.Lists.{fill}
 use Rattle.metrics.specs.Distance.{zero32}
 use Rattle.neighbor.specs.Neighbor.{result_rows, result_sums}
-use Rattle.pq_params.specs.declared.Shape.{Shape}
-use Rattle.pq_params.specs.declared.CelledShape.{CelledShape}
 use Rattle.pq_params.specs.Bounds.{bad_plain, bad_celled}
 use Rattle.pq_params.specs.Lengths.{subs_long, table_long}
-use Rattle.celled_lists.specs.Lists.{starts_sound, members_of, list_sound}
-use Rattle.cell_codes.specs.Codes.{visible, rows_sound}
+use Rattle.cell_table.specs.declared.CellView.{CellView}
 use Rattle.cell_walk.specs.Results.{Lent, SearchOut, asked_of, blank, answered}
+use Rattle.probed_cells.specs.declared.Asking.{Asking}
 use Rattle.probed_cells.specs.Search.{Asked, starts_good, probed, cell_sound, probed_sound, probed_finite, all_candidates}
+
+-- ---- a cell
+
+-- cell c as the search in one cell meets it
+abbrev pub view_of : Asking → ℕ → Bor (List ℕ) → Option (Bor (List Float)) → CellView
+view_of a c list center = record {
+  shape = a.index.shape.plain;
+  cell = c;
+  n = length list.now;
+  query = a.query;
+  center = center;
+  subs = a.index.subs;
+  mask = a.mask;
+  codes = a.index.codes;
+  members = Some list;
+}
 
 -- ---- step 3
 
 -- what the lists are read with: the buffers have their lengths, and the starts are sound
-pub record Listed (s : CelledShape) (n : ℕ) (mask starts members codes : List ℕ) : Type 0 where
-  pub plain : bad_plain s.plain ≡ false
-  pub few : n ≤ 100_001
-  pub mask-long : length mask ≡ n
-  pub starts-long : length starts ≡ s.cells + 1
-  pub members-long : length members ≡ n
-  pub codes-long : length codes ≡ n * s.plain.nsub
-  pub starts-sound : starts_sound starts s.cells n ≡ true
+pub record Listed (a : Asked) : Type 0 where
+  pub plain : bad_plain a.index.shape.plain ≡ false
+  pub few : a.index.n ≤ 100_001
+  pub mask-long : length a.mask ≡ a.index.n
+  pub starts-long : length a.index.starts ≡ a.index.shape.cells + 1
+  pub members-long : length a.index.members ≡ a.index.n
+  pub codes-long : length a.index.codes ≡ a.index.n * a.index.shape.plain.nsub
+  pub starts-sound : starts_good a ≡ true
 
 -- the cells of a list are cells of the index
 abbrev pub CellsIn : ℕ → List ℕ → Type 0
 CellsIn cells probed = (p : ℕ) → p < length probed → get_or probed p 0 < cells
 
--- the test in cell c, and in the p-th of a list of cells
-abbrev pub sound_in : Shape → ℕ → List ℕ → List ℕ → List ℕ → List ℕ → ℕ → Bool
-sound_in z n mask starts members codes c =
-    list_sound n (members_of starts members c) && rows_sound z (visible mask) codes (members_of starts members c)
-
-abbrev pub sound_at : Shape → ℕ → List ℕ → List ℕ → List ℕ → List ℕ → List ℕ → ℕ → Bool
-sound_at z n mask starts members codes probed p = sound_in z n mask starts members codes (get_or probed p 0)
+-- the test in the p-th of a list of cells
+abbrev pub sound_at : Asked → List ℕ → ℕ → Bool
+sound_at a probed p = cell_sound a (get_or probed p 0)
 
 -- ---- the work as a whole
 
@@ -74,4 +86,4 @@ pub record Cleared (l : Lent) : Type 0 where
 
 -- steps 4 and 5 over all probed cells
 abbrev pub probed_outcome : Asked → Lent → SearchOut
-probed_outcome a l = cond (not (probed_finite a)) (blank l 11) (answered l (all_candidates a))
+probed_outcome a l = cond (not (probed_finite a)) (blank l DistanceNotFinite) (answered l (all_candidates a))

@@ -7,12 +7,13 @@ use Rattle.lists.specs.Tests.{every}
 use Rattle.metrics.specs.Distance.{coordinate_in, coordinate}
 use Rattle.neighbor.specs.declared.Candidate.{Candidate}
 use Rattle.pq_params.specs.declared.CelledShape.{CelledShape}
-use Rattle.celled_lists.specs.Index.{Index, index_of}
+use Rattle.celled_lists.specs.Index.{Index, index_of, index_in}
 use Rattle.celled_lists.specs.Lists.{starts_sound, members_of, list_sound}
 use Rattle.celled_probe.specs.Probe.{distance_to, finite_cells, nearest_cells}
 use Rattle.cell_table.specs.Tables.{Cell}
 use Rattle.cell_codes.specs.Codes.{visible, codes_sound}
 use Rattle.cell_walk.specs.Candidates.{cell_finite, candidates}
+use Rattle.probed_cells.specs.declared.Asking.{Asking}
 
 -- what is asked of an index: a query and a row mask
 pub record Asked : Type 0 where
@@ -24,6 +25,9 @@ pub record Asked : Type 0 where
 abbrev pub asking : CelledShape → ℕ → List Float → List ℕ → List Float → List ℕ → List ℕ → List Float → List ℕ → Asked
 asking s n query mask coarse starts members subs codes =
     record { index = index_of s n coarse starts members subs codes; query = query; mask = mask }
+
+abbrev pub asking_in : Asking → Asked
+asking_in a = record { index = index_in a.index; query = a.query.now; mask = a.mask.now }
 
 -- 1. starts go from 0 to n and never fall
 abbrev pub starts_good : Asked → Bool

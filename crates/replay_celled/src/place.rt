@@ -4,7 +4,7 @@ use recorded::layout;
 use recorded::layout::{after, count};
 
 // The numbers before the lists.
-#[derive(Clone, Copy)]
+#[derive(Clone, Copy, Debug, PartialEq, Eq)]
 pub(crate) struct Numbers {
     pub(crate) shape: CelledShape,
     pub(crate) epochs: usize,
@@ -14,7 +14,7 @@ pub(crate) struct Numbers {
 }
 
 // Where each list after the rows begins, in words, and the answer begins with the draws used.
-#[derive(Clone, Copy)]
+#[derive(Clone, Copy, Debug, PartialEq, Eq)]
 pub(crate) struct Offsets {
     pub(crate) draws: usize,
     pub(crate) used: usize,
@@ -27,7 +27,7 @@ pub(crate) struct Offsets {
 }
 
 // The rows begin after the numbers.
-pub(crate) const ROWS: usize = 10;
+pub(crate) const FIRST_ROW: usize = 10;
 
 // The numbers of a body.
 pub(crate) fn numbers_of(body: &[u8]) -> Numbers {
@@ -52,7 +52,7 @@ pub(crate) fn numbers_of(body: &[u8]) -> Numbers {
 
 // Where the lists are.
 pub(crate) fn offsets_of(h: Numbers, l: CelledLengths) -> Offsets {
-    let draws = after(ROWS, l.rows);
+    let draws = after(FIRST_ROW, l.rows);
     let used = after(after(draws, h.draws), h.draws);
     let coarse = after(used, 1);
     let starts = after(coarse, l.coarse);

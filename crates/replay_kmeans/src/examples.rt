@@ -1,74 +1,78 @@
-// Document 01's worked examples of k-means, as cases of one table.
-use crate::checked::Ran;
-use answers::{Clustered, Stage};
-use kmeans_assign::Frame;
-use lending::parts;
+// Document 01's worked examples of k-means, in a table.
+use crate::checked;
+use crate::checked::Failed;
+use answers::Unclustered;
+use kmeans_assign::{Frame, Given};
+use lending::listed::same;
+use lending::parts::first;
+use lending::tally;
 use lending::tally::Tally;
-use recorded::layout::product;
 
-// Rows of two coordinates, the number of centres, the epochs, whether a split follows, how many of the draws 0.0, 0.25, 0.5, 0.4 are lent;
-// and what comes out: the answer's number, the draws used, the centres, how many rows each has, and the last assignment.
-#[derive(Clone, Copy)]
-pub(crate) struct Example {
-    pub rows: [f32; 10],
-    pub n: usize,
-    pub centers: usize,
-    pub epochs: u32,
-    pub splits: bool,
-    pub lent: usize,
-    pub number: u32,
-    pub used: usize,
-    pub at: [f32; 8],
-    pub counts: [u32; 4],
-    pub assigned: [u32; 5],
+// What comes out.
+#[derive(Clone, Copy, Debug, PartialEq)]
+enum Expected {
+    // Why it stopped; what the buffers hold then is not said.
+    Stopped(Unclustered),
+    // The draws used, the centres, how many rows each has, and the last assignment.
+    Done {
+        used: usize,
+        at: &'static [f32],
+        counts: &'static [u32],
+        assigned: &'static [u32],
+    },
 }
 
-// The number of examples.
-const EXAMPLES: usize = 5;
+// An example: rows of two coordinates, the number of centres, the epochs, whether a split follows, and the draws lent.
+#[derive(Clone, Copy, Debug, PartialEq)]
+struct Example {
+    rows: &'static [f32],
+    centers: usize,
+    epochs: u32,
+    splits: bool,
+    draws: &'static [f64],
+    expected: Expected,
+}
 
-// The draws of the examples.
-const DRAWS: [f64; 4] = [0.0, 0.25, 0.5, 0.4];
-
-// Rows (1,2), (3,4), four centres: the start, and the rows assigned to 0 and 1; the average; its split; the split with three draws.
-// And five equal rows, all of which one centre has: a donor count of 5 gives 2 and 3.
-fn example_at(i: usize) -> Example {
-    match i {
-        0 => Example {
-            rows: [1.0, 2.0, 3.0, 4.0, 0.0, 0.0, 0.0, 0.0, 0.0, 0.0],
-            n: 2,
-            centers: 4,
-            epochs: 0,
-            splits: false,
-            lent: 0,
-            number: 0,
+// The examples.
+static EXAMPLES: [Example; 5] = [
+    // Rows (1,2), (3,4), four centres: the start, and the rows assigned to 0 and 1
+    Example {
+        rows: &[1.0, 2.0, 3.0, 4.0],
+        centers: 4,
+        epochs: 0,
+        splits: false,
+        draws: &[],
+        expected: Expected::Done {
             used: 0,
-            at: [1.0, 2.0, 3.0, 2.0, 1.0, 2.0, 3.0, 2.0],
-            counts: [0, 0, 0, 0],
-            assigned: [0, 1, 0, 0, 0],
+            at: &[1.0, 2.0, 3.0, 2.0, 1.0, 2.0, 3.0, 2.0],
+            counts: &[0, 0, 0, 0],
+            assigned: &[0, 1],
         },
-        1 => Example {
-            rows: [1.0, 2.0, 3.0, 4.0, 0.0, 0.0, 0.0, 0.0, 0.0, 0.0],
-            n: 2,
-            centers: 4,
-            epochs: 1,
-            splits: false,
-            lent: 0,
-            number: 0,
+    },
+    // the average
+    Example {
+        rows: &[1.0, 2.0, 3.0, 4.0],
+        centers: 4,
+        epochs: 1,
+        splits: false,
+        draws: &[],
+        expected: Expected::Done {
             used: 0,
-            at: [1.0, 2.0, 3.0, 4.0, 0.0, 0.0, 0.0, 0.0],
-            counts: [1, 1, 0, 0],
-            assigned: [0, 1, 0, 0, 0],
+            at: &[1.0, 2.0, 3.0, 4.0, 0.0, 0.0, 0.0, 0.0],
+            counts: &[1, 1, 0, 0],
+            assigned: &[0, 1],
         },
-        2 => Example {
-            rows: [1.0, 2.0, 3.0, 4.0, 0.0, 0.0, 0.0, 0.0, 0.0, 0.0],
-            n: 2,
-            centers: 4,
-            epochs: 1,
-            splits: true,
-            lent: 4,
-            number: 0,
+    },
+    // its split
+    Example {
+        rows: &[1.0, 2.0, 3.0, 4.0],
+        centers: 4,
+        epochs: 1,
+        splits: true,
+        draws: &[0.0, 0.25, 0.5, 0.4],
+        expected: Expected::Done {
             used: 4,
-            at: [
+            at: &[
                 1.0009765625,
                 1.998046875,
                 3.0029296875,
@@ -78,129 +82,106 @@ fn example_at(i: usize) -> Example {
                 2.9970703125,
                 4.00390625,
             ],
-            counts: [1, 1, 0, 0],
-            assigned: [0, 1, 0, 0, 0],
+            counts: &[1, 1, 0, 0],
+            assigned: &[0, 1],
         },
-        3 => Example {
-            rows: [1.0, 2.0, 3.0, 4.0, 0.0, 0.0, 0.0, 0.0, 0.0, 0.0],
-            n: 2,
-            centers: 4,
-            epochs: 1,
-            splits: true,
-            lent: 3,
-            number: 8,
-            used: 0,
-            at: [0.0, 0.0, 0.0, 0.0, 0.0, 0.0, 0.0, 0.0],
-            counts: [0, 0, 0, 0],
-            assigned: [0, 0, 0, 0, 0],
-        },
-        _ => Example {
-            rows: [1.0, 2.0, 1.0, 2.0, 1.0, 2.0, 1.0, 2.0, 1.0, 2.0],
-            n: 5,
-            centers: 2,
-            epochs: 1,
-            splits: true,
-            lent: 1,
-            number: 0,
+    },
+    // the split with three draws: 8
+    Example {
+        rows: &[1.0, 2.0, 3.0, 4.0],
+        centers: 4,
+        epochs: 1,
+        splits: true,
+        draws: &[0.0, 0.25, 0.5],
+        expected: Expected::Stopped(Unclustered::OutOfDraws {
+            epoch: 1,
+            center: 3,
+        }),
+    },
+    // five equal rows, all of which one centre has: a donor count of 5 gives 2 and 3
+    Example {
+        rows: &[1.0, 2.0, 1.0, 2.0, 1.0, 2.0, 1.0, 2.0, 1.0, 2.0],
+        centers: 2,
+        epochs: 1,
+        splits: true,
+        draws: &[0.0],
+        expected: Expected::Done {
             used: 1,
-            at: [
-                1.0009765625,
-                1.998046875,
-                0.9990234375,
-                2.001953125,
-                0.0,
-                0.0,
-                0.0,
-                0.0,
-            ],
-            counts: [3, 2, 0, 0],
-            assigned: [0, 0, 0, 0, 0],
+            at: &[1.0009765625, 1.998046875, 0.9990234375, 2.001953125],
+            counts: &[3, 2],
+            assigned: &[0, 0, 0, 0, 0],
         },
-    }
-}
+    },
+];
 
-// Whether an answer is the example's: its number, and the draws used. A refusal names no draws.
-fn is_answer(c: Clustered, e: Example) -> bool {
-    let said = answers::train_answer(answers::at_stage(Stage::Coarse, c));
-    (said.number == e.number) & (said.used == e.used)
-}
-
-// Whether centres, counts and assignment are the example's.
-fn is_left(e: Example, centers: &[f32], assigned: &[u32], counts: &[u32]) -> bool {
-    let at = e.at;
-    let to = e.assigned;
-    let rows = e.counts;
-    if !lending::listed::floats(centers, &at, 0.0) {
-        return false;
-    }
-    if !lending::listed::numbers(assigned, &to, 0) {
-        return false;
-    }
-    lending::listed::numbers(counts, &rows, 0)
-}
-
-// The frame of an example: all rows, of two coordinates.
-fn frame(e: Example) -> Frame {
-    Frame {
+// What an example's k-means goes over: all rows, of two coordinates.
+fn given(e: &Example) -> Given<'_> {
+    let frame = Frame {
         d: 2,
         begin: 0,
         w: 2,
-        listed: false,
-        has: false,
-        n: e.n,
+        n: e.rows.len() / 2,
         centers: e.centers,
+    };
+    Given {
+        frame,
+        rows: e.rows,
+        members: None,
+        residual: None,
     }
 }
 
-// Whether what came out is the example's; of a refusal the answer's number alone.
-fn is_same(e: Example, r: Ran, centers: &[f32], assigned: &[u32], counts: &[u32]) -> bool {
-    let Ran::Ended(c) = r else {
-        return false;
-    };
-    if !is_answer(c, e) {
-        return false;
+// Whether an answer, and the centres, assignment and counts that it leaves, are those expected.
+fn is_expected(
+    x: &Expected,
+    ran: Result<usize, Failed>,
+    centers: &[f32],
+    assigned: &[u32],
+    counts: &[u32],
+) -> bool {
+    match *x {
+        Expected::Stopped(why) => ran == Err(Failed::Stopped(why)),
+        Expected::Done {
+            used,
+            at,
+            counts: held,
+            assigned: to,
+        } => ran == Ok(used)
+            && same(centers, at, 0.0)
+            && same(assigned, to, 0)
+            && same(counts, held, 0),
     }
-    let Clustered::Done(_) = c else {
-        return true;
-    };
-    is_left(e, centers, assigned, counts)
 }
 
 // Whether an example comes out as document 01 says.
-fn agrees(e: Example) -> bool {
-    let rows = e.rows;
-    let draws = DRAWS;
-    let members = [0u32; 1];
-    let residual = [0.0f32; 2];
+fn agrees(e: &Example) -> bool {
     let mut centers = [0.0f32; 8];
     let mut assigned = [0u32; 5];
     let mut counts = [0u32; 4];
-    let r = crate::checked::run(
-        frame(e),
+    let g = given(e);
+    let ran = checked::run(
+        g,
         e.epochs,
         e.splits,
-        parts::floats(&rows, product(e.n, 2)),
-        &members,
-        &residual,
-        parts::draws(&draws, e.lent),
+        e.draws,
         &mut centers,
         &mut assigned,
         &mut counts,
     );
-    is_same(
-        e,
-        r,
-        parts::floats(&centers, product(e.centers, 2)),
-        parts::numbers(&assigned, e.n),
-        parts::numbers(&counts, e.centers),
+    is_expected(
+        &e.expected,
+        ran,
+        first(&centers, recorded::layout::product(e.centers, 2)),
+        first(&assigned, g.frame.n),
+        first(&counts, e.centers),
     )
 }
 
-// How many of the examples come out as document 01 says.
+// How many of the examples come out as document 01 says; their type is this file's.
 pub(crate) fn agreeing() -> Tally {
-    let mut t = Tally { agree: 0, of: 0 };
-    for i in 0..EXAMPLES {
-        t = lending::tally::counted(t, agrees(example_at(i)));
+    let mut t = Tally::default();
+    for e in &EXAMPLES {
+        t = tally::counted(t, agrees(e));
     }
     t
 }

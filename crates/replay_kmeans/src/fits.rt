@@ -1,42 +1,43 @@
-// Tests at run time of everything that k-means asks of its frame and of the slices lent beside it.
-ghost use Rattle.std.specs.Prelude.{◌≡◌, true, ℕ, ◌+◌, ◌*◌, ◌≤◌, ◌<◌, length};
+// Tests at run time of everything that k-means asks of what it goes over and of the slices lent beside it.
+ghost use Rattle.std.specs.Prelude.{◌≡◌, true, ℕ, ◌+◌, ◌*◌, ◌≤◌, ◌<◌, length, IfSome, option_copied};
 ghost use Rattle.lists.specs.Lists.{member_of};
-ghost use Rattle.kmeans_assign.specs.Task.{Framed};
+ghost use Rattle.kmeans_assign.specs.Task.{FramedGiven};
 ghost use Rattle.kmeans_split.specs.Split.{NotNegative};
 ghost use Rattle.replay_kmeans.specs.Fits.{Bounded, Long};
 
-use kmeans_assign::Frame;
+use kmeans_assign::{Frame, Given};
 
 // Whether the frame's numbers are within document 01's bounds.
 fn in_bounds(f: Frame) -> bool
     ensures { result ≡ true → Bounded f }
 {
-    if f.n == 0 {
-        return false;
-    }
-    if 100_001 < f.n {
-        return false;
-    }
-    if f.centers == 0 {
-        return false;
-    }
-    if 1024 < f.centers {
-        return false;
-    }
-    if 256 < f.d {
-        return false;
-    }
-    if f.d < f.w {
-        return false;
-    }
-    f.begin <= f.d - f.w
+    0 < f.n
+        && f.n <= 100_001
+        && 0 < f.centers
+        && f.centers <= 1024
+        && f.d <= 256
+        && f.w <= f.d
+        && f.begin <= f.d - f.w
 }
 
 // Whether the list, if there is one, has as many rows as the frame says.
-fn is_listed(f: Frame, members: &[u32]) -> bool
-    ensures { result ≡ true → f.listed ≡ true → f.n ≤ length members.now }
+fn is_listed(n: usize, members: Option<&[u32]>) -> bool
+    ensures { result ≡ true → IfSome (option_copied members.entry) (λ m. n ≤ length m) }
 {
-    if f.listed { f.n <= members.len() } else { true }
+    match members {
+        Some(list) => n <= list.len(),
+        None => true,
+    }
+}
+
+// Whether the residual, if there is one, is as wide as the range.
+fn is_wide(w: usize, residual: Option<&[f32]>) -> bool
+    ensures { result ≡ true → IfSome (option_copied residual.entry) (λ r. length r ≡ w) }
+{
+    match residual {
+        Some(taken) => taken.len() == w,
+        None => true,
+    }
 }
 
 // Whether a row is among the rows.
@@ -44,22 +45,19 @@ fn is_held(d: usize, rows: &[f32], m: usize) -> bool
     requires { d ≤ 256 }
     ensures { result ≡ true → m * d + d ≤ length rows.now }
 {
-    if 4_294_967_296 <= m {
-        return false;
-    }
-    m * d + d <= rows.len()
+    m < 4_294_967_296 && m * d + d <= rows.len()
 }
 
 // Whether every row of the frame is among the rows.
-fn are_held(f: Frame, rows: &[f32], members: &[u32]) -> bool
-    requires bounded { Bounded f }
-    requires n_in_bounds { f.listed ≡ true → f.n ≤ length members.now }
-    ensures { let at : ℕ → ℕ = λ k. member_of f.listed members.now k in
-        (result ≡ true → (k : ℕ) → k < f.n → at k * f.d + f.d ≤ length rows.now) }
+fn are_held(g: Given<'_>) -> bool
+    requires bounded { Bounded g.frame }
+    requires n_in_bounds { IfSome (option_copied g.members) (λ m. g.frame.n ≤ length m) }
+    ensures { let at : ℕ → ℕ = member_of (option_copied g.entry.members) in
+        (result ≡ true → (k : ℕ) → k < g.entry.frame.n → at k * g.entry.frame.d + g.entry.frame.d ≤ length g.entry.rows.now) }
 {
-    for k in 0..f.n {
-        let m = lists::row_number(f.listed, members, k);
-        if !is_held(f.d, rows, m) {
+    for k in 0..g.frame.n {
+        let m = lists::row_number(g.members, k);
+        if !is_held(g.frame.d, g.rows, m) {
             return false;
         }
     }
@@ -67,48 +65,29 @@ fn are_held(f: Frame, rows: &[f32], members: &[u32]) -> bool
 }
 
 // Whether the slices hold what the frame speaks of.
-pub(crate) fn framed(f: Frame, rows: &[f32], members: &[u32], residual: &[f32]) -> bool
-    ensures { result ≡ true → Framed f rows.now members.now residual.now }
+pub(crate) fn framed(g: Given<'_>) -> bool
+    ensures { result ≡ true → FramedGiven g.entry }
 {
-    if !in_bounds(f) {
-        return false;
-    }
-    if residual.len() != f.w {
-        return false;
-    }
-    if !is_listed(f, members) {
-        return false;
-    }
-    are_held(f, rows, members)
+    in_bounds(g.frame)
+        && is_wide(g.frame.w, g.residual)
+        && is_listed(g.frame.n, g.members)
+        && are_held(g)
 }
 
 // Whether no draw is below 0.
 pub(crate) fn drawn(draws: &[f64]) -> bool
     ensures { result ≡ true → NotNegative draws.now }
 {
-    for k in 0..draws.len() {
-        if !(0.0 <= draws[k]) {
-            return false;
-        }
-    }
-    true
+    draws.iter().all(|x| 0.0 <= *x)
 }
 
 // Whether the runs to be written are as long as the frame says.
 pub(crate) fn long(f: Frame, centers: &[f32], assigned: &[u32], counts: &[u32]) -> bool
     ensures { result ≡ true → Long f centers.now assigned.now counts.now }
 {
-    if 1024 < f.centers {
-        return false;
-    }
-    if 256 < f.w {
-        return false;
-    }
-    if centers.len() != f.centers * f.w {
-        return false;
-    }
-    if assigned.len() != f.n {
-        return false;
-    }
-    counts.len() == f.centers
+    f.centers <= 1024
+        && f.w <= 256
+        && centers.len() == f.centers * f.w
+        && assigned.len() == f.n
+        && counts.len() == f.centers
 }

@@ -1,38 +1,40 @@
 // A recorded k-means: its numbers, its lists and its answer, replayed by our code.
-use crate::checked::Ran;
-use answers::Clustered;
-use kmeans_assign::Frame;
-use lending::parts;
+use crate::checked;
+use kmeans_assign::{Frame, Given};
+use lending::buffers::{DRAWS, filled};
+use lending::parts::first;
 use recorded::layout::{after, count, product};
+use recorded::{compare, layout};
 
 // The numbers before the lists.
-#[derive(Clone, Copy)]
-pub(crate) struct Numbers {
-    pub d: usize,
-    pub n: usize,
-    pub begin: usize,
-    pub end: usize,
-    pub m: usize,
-    pub has: bool,
-    pub centers: usize,
-    pub epochs: u32,
-    pub lent: usize,
+#[derive(Clone, Copy, Debug, PartialEq, Eq)]
+struct Numbers {
+    d: usize,
+    n: usize,
+    begin: usize,
+    end: usize,
+    members: usize,
+    // The file's word; the residual itself stands behind the rows.
+    has_residual: bool,
+    centers: usize,
+    epochs: u32,
+    draws: usize,
 }
 
 // Where each list after the rows begins, in words, the answer begins with the draws used, and the body ends.
-#[derive(Clone, Copy)]
-pub(crate) struct Offsets {
-    pub members: usize,
-    pub residual: usize,
-    pub draws: usize,
-    pub used: usize,
-    pub centers: usize,
-    pub assigned: usize,
-    pub end: usize,
+#[derive(Clone, Copy, Debug, PartialEq, Eq)]
+struct Offsets {
+    members: usize,
+    residual: usize,
+    draws: usize,
+    used: usize,
+    centers: usize,
+    assigned: usize,
+    end: usize,
 }
 
 // The rows begin after the numbers.
-const ROWS: usize = 9;
+const FIRST_ROW: usize = 9;
 
 // The numbers of a body.
 fn numbers_of(body: &[u8]) -> Numbers {
@@ -41,30 +43,25 @@ fn numbers_of(body: &[u8]) -> Numbers {
         n: count(body, 1),
         begin: count(body, 2),
         end: count(body, 3),
-        m: count(body, 4),
-        has: count(body, 5) == 1,
+        members: count(body, 4),
+        has_residual: count(body, 5) == 1,
         centers: count(body, 6),
-        epochs: recorded::layout::word(body, 7),
-        lent: count(body, 8),
+        epochs: layout::word(body, 7),
+        draws: count(body, 8),
     }
 }
 
 // The width of the range.
 fn width(h: Numbers) -> usize {
-    if h.begin <= h.end { h.end - h.begin } else { 0 }
+    h.end.saturating_sub(h.begin)
 }
 
-// The words of the residual.
-fn residual_words(h: Numbers) -> usize {
-    if h.has { h.d } else { 0 }
-}
-
-// Where the lists are.
+// Where the lists are. The residual has d words, if there is one.
 fn offsets_of(h: Numbers) -> Offsets {
-    let members = after(ROWS, product(h.n, h.d));
-    let residual = after(members, h.m);
-    let draws = after(residual, residual_words(h));
-    let used = after(after(draws, h.lent), h.lent);
+    let members = after(FIRST_ROW, product(h.n, h.d));
+    let residual = after(members, h.members);
+    let draws = after(residual, if h.has_residual { h.d } else { 0 });
+    let used = after(after(draws, h.draws), h.draws);
     let centers = after(used, 1);
     let assigned = after(centers, product(h.centers, width(h)));
     Offsets {
@@ -74,129 +71,101 @@ fn offsets_of(h: Numbers) -> Offsets {
         used,
         centers,
         assigned,
-        end: after(assigned, h.m),
+        end: after(assigned, h.members),
     }
 }
 
 // The frame of a case.
-fn frame(h: Numbers, listed: bool) -> Frame {
+fn frame_of(h: Numbers) -> Frame {
     Frame {
         d: h.d,
         begin: h.begin,
         w: width(h),
-        listed,
-        has: h.has,
-        n: h.m,
+        n: h.members,
         centers: h.centers,
     }
 }
 
 // Whether a list of rows names each row of n in order, so that k-means may go over all rows without it.
 fn names_all(members: &[u32], n: usize) -> bool {
-    for k in 0..members.len() {
-        if lists::wide(members[k]) != k {
-            return false;
-        }
-    }
     members.len() == n
+        && members
+            .iter()
+            .enumerate()
+            .all(|(k, m)| lists::wide(*m) == k)
 }
 
-// Whether an answer, the centres and the last assignment are the recorded ones.
-fn is_answer(body: &[u8], p: Offsets, r: Ran, centers: &[f32], assigned: &[u32]) -> bool {
-    let Ran::Ended(c) = r else {
-        return false;
-    };
-    let Clustered::Done(used) = c else {
-        return false;
-    };
-    if used != count(body, p.used) {
-        return false;
-    }
-    if !recorded::compare::floats(body, p.centers, centers) {
-        return false;
-    }
-    recorded::compare::numbers(body, p.assigned, assigned)
-}
-
-// Whether our k-means has the recorded answer, over the list of rows or over all rows.
-fn answers(
-    body: &[u8],
-    p: Offsets,
-    f: Frame,
-    epochs: u32,
-    rows: &[f32],
-    members: &[u32],
-    residual: &[f32],
-    draws: &[f64],
-) -> bool {
-    let mut centers = crate::buffers::centers();
+// Whether our k-means has the recorded answer, and leaves the recorded centres and last assignment.
+fn answers(body: &[u8], p: Offsets, g: Given<'_>, epochs: u32, draws: &[f64]) -> bool {
+    let mut centers: [f32; 65_536] = filled(0.0);
     let mut assigned = [0u32; 512];
     let mut counts = [0u32; 1_024];
-    let r = crate::checked::run(
-        f,
+    let ran = checked::run(
+        g,
         epochs,
         false,
-        rows,
-        members,
-        residual,
         draws,
         &mut centers,
         &mut assigned,
         &mut counts,
     );
-    is_answer(
-        body,
-        p,
-        r,
-        parts::floats(&centers, product(f.centers, f.w)),
-        parts::numbers(&assigned, f.n),
-    )
+    let long = product(g.frame.centers, g.frame.w);
+    ran == Ok(count(body, p.used))
+        && compare::same(body, p.centers, first(&centers, long))
+        && compare::same(body, p.assigned, first(&assigned, g.frame.n))
 }
 
-// Whether a case whose lists are loaded agrees: over its list of rows, and if the list names all rows, without it too.
+// Whether our k-means has the recorded answer over a list of rows, and if the list names all rows, without it too.
 fn both(
     body: &[u8],
     h: Numbers,
-    p: Offsets,
     rows: &[f32],
-    members: &[u32],
-    residual: &[f32],
+    list: &[u32],
+    residual: Option<&[f32]>,
     draws: &[f64],
 ) -> bool {
-    let f = frame(h, true);
-    if !answers(body, p, f, h.epochs, rows, members, residual, draws) {
+    let p = offsets_of(h);
+    let frame = frame_of(h);
+    let listed = Given {
+        frame,
+        rows,
+        members: Some(list),
+        residual,
+    };
+    if !answers(body, p, listed, h.epochs, draws) {
         return false;
     }
-    if !names_all(members, h.n) {
-        return true;
-    }
-    let g = frame(h, false);
-    answers(body, p, g, h.epochs, rows, members, residual, draws)
+    let all = Given {
+        frame,
+        rows,
+        members: None,
+        residual,
+    };
+    !names_all(list, h.n) || answers(body, p, all, h.epochs, draws)
 }
 
 // Whether a recorded k-means agrees. A body that is not of the length that its numbers say, or that the buffers do not hold, does not.
-// Without a residual no word of its slice is used.
 pub(crate) fn agrees(body: &[u8]) -> bool {
     let h = numbers_of(body);
     let p = offsets_of(h);
-    if !recorded::layout::ends(body, p.end) {
+    if !layout::ends(body, p.end) {
         return false;
     }
-    let mut rows = crate::buffers::rows();
+    let mut rows: [f32; 16_384] = filled(0.0);
     let mut members = [0u32; 512];
     let mut residual = [0.0f32; 256];
-    let mut draws = crate::buffers::draws();
-    recorded::layout::floats(body, ROWS, &mut rows);
-    recorded::layout::numbers(body, p.members, &mut members);
-    recorded::layout::floats(body, after(p.residual, h.begin), &mut residual);
-    recorded::layout::draws(body, p.draws, &mut draws);
+    let mut draws: [f64; DRAWS] = filled(0.0);
+    layout::load(body, FIRST_ROW, &mut rows);
+    layout::load(body, p.members, &mut members);
+    layout::load(body, after(p.residual, h.begin), &mut residual);
+    layout::load(body, p.draws, &mut draws);
+    let taken = first(&residual, width(h));
     both(
         body,
         h,
-        p,
-        parts::floats(&rows, product(h.n, h.d)),
-        parts::numbers(&members, h.m),
-        parts::floats(&residual, width(h)),
-        parts::draws(&draws, h.lent),
+        first(&rows, product(h.n, h.d)),
+        first(&members, h.members),
+        if h.has_residual { Some(taken) } else { None },
+        first(&draws, h.draws),
     )
 }

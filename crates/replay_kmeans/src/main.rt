@@ -2,42 +2,27 @@
 // data/kmeans.bin is what the oracle's command `record` writes, from the Rust's own answers; oracle/README.md has its layout.
 #![tactic(auto)]
 
-mod buffers;
 mod checked;
 mod examples;
 mod fits;
 mod kind_kmeans;
 
+use lending::buffers::filled;
+use lending::parts::first;
 use lending::tally::Tally;
 use lending::{reading, tally};
-use recorded::layout;
+use recorded::replay::replayed;
 use std::fs::File;
 use std::{fs, io};
 
 // The kind of the file's cases.
 const KMEANS: u32 = 1;
 
-// All cases of a file. What stands after the last one counts as one more that does not agree.
-fn replay_all(file: &[u8]) -> Tally {
-    let mut t = Tally { agree: 0, of: 0 };
-    let mut at = layout::FIRST;
-    for i in 0..layout::cases(file) {
-        let body = layout::body(file, at, KMEANS);
-        t = tally::counted(t, kind_kmeans::agrees(body));
-        at = layout::next(file, at);
-    }
-    if layout::ends(file, at) {
-        t
-    } else {
-        tally::counted(t, false)
-    }
-}
-
-// All cases of an open file.
+// How many cases of an open file agree. Of each program its own: its size of file and kind of case are constants.
 fn replay_file(from: &mut File) -> io::Result<Tally> {
-    let mut file = buffers::file();
+    let mut file: [u8; 1_048_576] = filled(0);
     let n = reading::read_full(from, &mut file)?;
-    Ok(replay_all(lending::parts::bytes(&file, n)))
+    Ok(replayed(first(&file, n), KMEANS, kind_kmeans::agrees))
 }
 
 // The examples, then the file.

@@ -1,12 +1,15 @@
 // A recorded plain index: its training and its searches, replayed by our code.
-use answers::Trained;
-use lending::{buffers, held, listed, parts};
+use answers::Untrained;
+use lending::buffers::{DIRTY_BYTE, DIRTY_FLOAT, DIRTY_NUMBER, DRAWS, ROWS, filled};
+use lending::held::held;
+use lending::listed;
+use lending::parts::first;
 use pq_params::{PlainLengths, Shape};
 use recorded::layout::{after, count};
 use recorded::{compare, layout};
 
 // The numbers before the lists.
-#[derive(Clone, Copy)]
+#[derive(Clone, Copy, Debug, PartialEq, Eq)]
 struct Numbers {
     shape: Shape,
     epochs: usize,
@@ -16,7 +19,7 @@ struct Numbers {
 }
 
 // Where each list after the rows begins, in words, and the answer begins with the draws used.
-#[derive(Clone, Copy)]
+#[derive(Clone, Copy, Debug, PartialEq, Eq)]
 struct Offsets {
     draws: usize,
     used: usize,
@@ -25,8 +28,16 @@ struct Offsets {
     queries: usize,
 }
 
+// An index that a training made.
+#[derive(Clone, Copy, Debug, PartialEq)]
+struct Index<'a> {
+    numbers: Numbers,
+    subs: &'a [f32],
+    codes: &'a [u8],
+}
+
 // The rows begin after the numbers.
-const ROWS: usize = 8;
+const FIRST_ROW: usize = 8;
 
 // The numbers of a body.
 fn numbers_of(body: &[u8]) -> Numbers {
@@ -46,7 +57,7 @@ fn numbers_of(body: &[u8]) -> Numbers {
 
 // Where the lists are.
 fn offsets_of(h: Numbers, l: PlainLengths) -> Offsets {
-    let draws = after(ROWS, l.rows);
+    let draws = after(FIRST_ROW, l.rows);
     let used = after(after(draws, h.draws), h.draws);
     let subs = after(used, 1);
     let codes = after(subs, l.subs);
@@ -59,147 +70,101 @@ fn offsets_of(h: Numbers, l: PlainLengths) -> Offsets {
     }
 }
 
-// Whether a training ended with the recorded answer, and left work zero.
-fn is_trained(
-    body: &[u8],
-    p: Offsets,
-    t: Trained,
-    subs: &[f32],
-    codes: &[u8],
-    work: &[u32],
-) -> bool {
-    let Trained::Done(used) = t else {
-        return false;
-    };
-    (used == count(body, p.used))
-        & compare::floats(body, p.subs, subs)
-        & compare::bytes(body, p.codes, codes)
-        & listed::numbers_are(work, 0)
+// Whether a training ended with the recorded answer.
+fn is_trained(body: &[u8], p: Offsets, t: Result<usize, Untrained>, x: Index<'_>) -> bool {
+    t == Ok(count(body, p.used))
+        && compare::same(body, p.subs, x.subs)
+        && compare::bytes(body, p.codes, x.codes)
 }
 
-// Whether a search, in the first elements of larger buffers, has the answer that is recorded at a place. All rows are visible.
-fn finds_in(
-    body: &[u8],
-    at: usize,
-    k: usize,
-    h: Numbers,
-    query: &[f32],
-    subs: &[f32],
-    codes: &[u8],
-    rows: &mut [u32],
-    sums: &mut [f32],
-    table: &mut [f32],
-) -> bool {
-    let l = pq_params::plain_lengths(h.shape, h.n);
+// Whether the search that is recorded at a place has the recorded answer, in the first elements of larger buffers that nobody wrote. All
+// rows are visible.
+fn finds(body: &[u8], at: usize, x: Index<'_>) -> bool {
+    let h = x.numbers;
+    let k = count(body, at);
     let mask = [128u8; 512];
-    let x = held::numbers(rows, k);
-    let y = held::floats(sums, k);
-    let z = held::floats(table, l.table);
-    let a = plain_search::search(
+    let mut query = [0.0f32; 256];
+    layout::load(body, after(at, 1), &mut query);
+    let mut rows: [u32; 600] = filled(DIRTY_NUMBER);
+    let mut sums: [f32; 600] = filled(DIRTY_FLOAT);
+    let mut table: [f32; ROWS] = filled(DIRTY_FLOAT);
+    let r = held(&rows, k);
+    let s = held(&sums, k);
+    let t = held(&table, pq_params::plain_lengths(h.shape, h.n).table);
+    let rows = &mut rows[..r];
+    let sums = &mut sums[..s];
+    let table = &mut table[..t];
+    let answer = plain_search::search(
         h.shape,
         h.n,
-        query,
-        parts::bytes(&mask, h.n),
-        subs,
-        codes,
-        &mut rows[..x],
-        &mut sums[..y],
-        &mut table[..z],
+        first(&query, h.shape.d),
+        first(&mask, h.n),
+        x.subs,
+        x.codes,
+        rows,
+        sums,
+        table,
     );
     compare::found(
         body,
-        at,
-        a,
-        parts::numbers(rows, x),
-        parts::floats(sums, y),
-        parts::floats(table, z),
-    )
-}
-
-// Whether the search that is recorded at a place has the recorded answer.
-fn finds(body: &[u8], at: usize, h: Numbers, subs: &[f32], codes: &[u8]) -> bool {
-    let d = h.shape.d;
-    let mut query = [0.0f32; 256];
-    let mut rows = [buffers::DIRTY_NUMBER; 600];
-    let mut sums = [buffers::DIRTY_FLOAT; 600];
-    let mut table = buffers::floats(buffers::DIRTY_FLOAT);
-    layout::floats(body, after(at, 1), &mut query);
-    finds_in(
-        body,
-        after(after(at, 1), d),
-        count(body, at),
-        h,
-        parts::floats(&query, d),
-        subs,
-        codes,
-        &mut rows,
-        &mut sums,
-        &mut table,
+        after(after(at, 1), h.shape.d),
+        answer,
+        rows,
+        sums,
+        table,
     )
 }
 
 // Whether all recorded searches have their answers, and the body ends after them.
-fn finds_all(body: &[u8], h: Numbers, begin: usize, subs: &[f32], codes: &[u8]) -> bool {
+fn finds_all(body: &[u8], begin: usize, x: Index<'_>) -> bool {
     let mut at = begin;
-    let mut all = true;
-    for i in 0..h.queries {
-        all = all & finds(body, at, h, subs, codes);
-        at = layout::after_search(body, at, h.shape.d);
+    for _ in 0..x.numbers.queries {
+        if !finds(body, at, x) {
+            return false;
+        }
+        at = layout::after_search(body, at, x.numbers.shape.d);
     }
-    all & layout::ends(body, at)
+    layout::ends(body, at)
 }
 
-// Whether the training, in the first elements of larger buffers, and the searches have their recorded answers.
-fn replays_in(
-    body: &[u8],
-    h: Numbers,
-    l: PlainLengths,
-    rows: &[f32],
-    draws: &[f64],
-    subs: &mut [f32],
-    codes: &mut [u8],
-    work: &mut [u32],
-) -> bool {
-    let p = offsets_of(h, l);
-    let x = held::floats(subs, l.subs);
-    let y = held::bytes(codes, l.codes);
-    let z = held::numbers(work, l.work);
+// Whether a training of some rows with some draws, in the first elements of larger buffers that nobody wrote, ends with the recorded
+// answer, leaves work zero, and makes an index whose searches have theirs.
+fn replays(body: &[u8], numbers: Numbers, l: PlainLengths, rows: &[f32], draws: &[f64]) -> bool {
+    let mut subs: [f32; ROWS] = filled(DIRTY_FLOAT);
+    let mut codes: [u8; ROWS] = filled(DIRTY_BYTE);
+    let mut work: [u32; 1_536] = filled(DIRTY_NUMBER);
+    let s = held(&subs, l.subs);
+    let c = held(&codes, l.codes);
+    let w = held(&work, l.work);
+    let subs = &mut subs[..s];
+    let codes = &mut codes[..c];
+    let work = &mut work[..w];
     let t = plain_train::train(
-        h.shape,
-        h.epochs,
-        h.n,
+        numbers.shape,
+        numbers.epochs,
+        numbers.n,
         rows,
         draws,
-        &mut subs[..x],
-        &mut codes[..y],
-        &mut work[..z],
+        subs,
+        codes,
+        work,
     );
-    let s = parts::floats(subs, x);
-    let c = parts::bytes(codes, y);
-    is_trained(body, p, t, s, c, parts::numbers(work, z)) & finds_all(body, h, p.queries, s, c)
-}
-
-// The same, in buffers that nobody wrote.
-fn replays(body: &[u8], h: Numbers, l: PlainLengths, rows: &[f32], draws: &[f64]) -> bool {
-    let mut subs = buffers::floats(buffers::DIRTY_FLOAT);
-    let mut codes = buffers::bytes(buffers::DIRTY_BYTE);
-    let mut work = [buffers::DIRTY_NUMBER; 1_536];
-    replays_in(body, h, l, rows, draws, &mut subs, &mut codes, &mut work)
+    let p = offsets_of(numbers, l);
+    let x = Index {
+        numbers,
+        subs,
+        codes,
+    };
+    is_trained(body, p, t, x) && listed::are(work, 0) && finds_all(body, p.queries, x)
 }
 
 // Whether a recorded plain index agrees. One that is laid out otherwise, or that the buffers do not hold, does not.
 pub(crate) fn agrees(body: &[u8]) -> bool {
     let h = numbers_of(body);
     let l = pq_params::plain_lengths(h.shape, h.n);
-    let mut rows = buffers::floats(0.0);
-    let mut draws = buffers::draws();
-    layout::floats(body, ROWS, &mut rows);
-    layout::draws(body, offsets_of(h, l).draws, &mut draws);
-    replays(
-        body,
-        h,
-        l,
-        parts::floats(&rows, l.rows),
-        parts::draws(&draws, h.draws),
-    )
+    let mut rows: [f32; ROWS] = filled(0.0);
+    let mut draws: [f64; DRAWS] = filled(0.0);
+    layout::load(body, FIRST_ROW, &mut rows);
+    layout::load(body, offsets_of(h, l).draws, &mut draws);
+    replays(body, h, l, first(&rows, l.rows), first(&draws, h.draws))
 }

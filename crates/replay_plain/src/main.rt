@@ -4,36 +4,22 @@
 
 mod kind_plain;
 
+use lending::buffers::{FILE, filled};
+use lending::parts::first;
 use lending::tally::Tally;
 use lending::{reading, tally};
-use recorded::layout;
+use recorded::replay::replayed;
 use std::fs::File;
 use std::{fs, io};
 
 // The kind of the file's cases.
 const PLAIN: u32 = 2;
 
-// All cases of a file. What stands after the last one counts as one more that does not agree.
-fn replay_all(file: &[u8]) -> Tally {
-    let mut t = Tally { agree: 0, of: 0 };
-    let mut at = layout::FIRST;
-    for i in 0..layout::cases(file) {
-        let body = layout::body(file, at, PLAIN);
-        t = tally::counted(t, kind_plain::agrees(body));
-        at = layout::next(file, at);
-    }
-    if layout::ends(file, at) {
-        t
-    } else {
-        tally::counted(t, false)
-    }
-}
-
-// All cases of an open file.
+// How many cases of an open file agree. Of each program its own: its size of file and kind of case are constants.
 fn replay_file(from: &mut File) -> io::Result<Tally> {
-    let mut file = lending::buffers::file();
+    let mut file: [u8; FILE] = filled(0);
     let n = reading::read_full(from, &mut file)?;
-    Ok(replay_all(lending::parts::bytes(&file, n)))
+    Ok(replayed(first(&file, n), PLAIN, kind_plain::agrees))
 }
 
 // The file.

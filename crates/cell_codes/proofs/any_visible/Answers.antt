@@ -1,33 +1,14 @@
--- `any_visible`: every row passed is hidden.
-use borrow.Author.Rules.{rules}
-use borrow.Author.Count.{below_more}
-use mathlib.Core.Path.{sym, ◌∙◌, ap}
-use native.Mathlib.Omega.{arith}
-use Rattle.lists.specs.Lists.{member_of}
-use Rattle.cell_codes.specs.Codes.{visible}
-use Rattle.cell_codes.proofs.Shown.{shown-none, shown-some}
+-- `any_visible`: a row is visible, or all are hidden.
+use Rattle.std.proofs.Common.{◌≡◌, ℕ, true, false, refl, rules}
+use native.Mathlib.Nat.{sub-zero}
+use Rattle.std.proofs.lemmas.Iterator.{cases_from_any, YieldsList-from_range}
+use Rattle.cell_codes.specs.Codes.{row_at, visible}
+use Rattle.cell_codes.proofs.Shown.{any-shown}
 use Rattle.cell_codes.proofs.any_visible.Goals as goal
-
-pub loop-i-init : goal.loop-i-init
-loop-i-init c = (search rules, λ i h. absurd (omega arith))
-
-pub row_number-m-requires : goal.row_number-m-requires
-row_number-m-requires c = λ e. let h = c.requires.listed-long e in omega (arith, c.loop-i-test.true)
-
-pub is_visible-requires : goal.is_visible-requires
-is_visible-requires c = rw c.row_number-m.ensures (c.requires.inside c.loop-i.i c.loop-i-test.true)
-
-pub returns-then-is_visible : goal.returns-then-is_visible
-returns-then-is_visible c =
-    let a = c.args in
-    shown-some (visible a.mask.now) (member_of a.z.celled a.members.now) a.z.n c.loop-i.i c.loop-i-test.true (ap (visible a.mask.now) (sym c.row_number-m.ensures) ∙ sym c.is_visible.ensures ∙ c.if-is_visible.true)
-
-pub loop-i-preserved : goal.loop-i-preserved
-loop-i-preserved c =
-    let a = c.args in
-    (search rules, below_more _ _ c.loop-i.invariant.1 (ap (visible a.mask.now) (sym c.row_number-m.ensures) ∙ sym c.is_visible.ensures ∙ c.if-is_visible.false))
 
 pub returns : goal.returns
 returns c =
-    let a = c.args in
-    shown-none (visible a.mask.now) (member_of a.z.celled a.members.now) a.z.n (λ i h. c.loop-i.invariant.1 i (omega arith))
+    let z = c.args.z in
+    let v = λ (k : ℕ). visible z.mask.now (row_at z k) in
+    let each = cases_from_any _ _ _ (λ k. v k ≡ true) (λ k. v k ≡ false) c.any.ensures.ran (YieldsList-from_range 0 z.n z.n refl (sub-zero z.n)) (λ x q k. search rules) (λ x q k. search rules) in
+    any-shown (visible z.mask.now) (row_at z) z.n _ each

@@ -1,8 +1,5 @@
 -- `codes_below`: the highest code of the row is below K where all are.
-use Prim.Native.Nat.{ℕ, ◌+◌, ◌*◌, ◌-◌}
-use mathlib.Core.Path.{◌∙◌, ap}
-use native.Mathlib.Omega.{arith}
-use lib.Dec.{ltb}
+use Rattle.std.proofs.Common.{ℕ, ◌+◌, ◌*◌, ◌-◌, ltb, ◌∙◌, ap, arith}
 use Rattle.cell_codes.proofs.CodesTest.{part-under}
 use Rattle.cell_codes.proofs.codes_below.Goals as goal
 

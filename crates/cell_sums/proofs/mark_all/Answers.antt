@@ -1,9 +1,13 @@
--- `mark_all`: the mark where a sum is not finite.
-use mathlib.Core.Path.{sym, ◌∙◌}
+-- `mark_all`: the sums passed are finite.
+use Rattle.std.proofs.Common.{◌&&◌, refl, add-one}
+use mathlib.Core.Path.{ap₂}
+use Rattle.lists.specs.Tests.{every}
 use Rattle.cell_sums.proofs.mark_all.Goals as goal
 
-pub returns-then-all_finite : goal.returns-then-all_finite
-returns-then-all_finite c = rw (sym c.all_finite.ensures ∙ c.if-all_finite.true)
+pub loop-c-init : goal.loop-c-init
+unfolding every
+loop-c-init c = refl
 
-pub returns-else-all_finite : goal.returns-else-all_finite
-returns-else-all_finite c = rw (sym c.all_finite.ensures ∙ c.if-all_finite.false)
+pub loop-c-preserved : goal.loop-c-preserved
+unfolding every
+loop-c-preserved c = rw add-one (ap₂ ◌&&◌ c.loop-c.invariant c.is_finite-all.ensures)

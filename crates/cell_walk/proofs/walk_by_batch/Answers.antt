@@ -1,79 +1,86 @@
 -- `walk_by_batch`: the rows passed are finite, and their candidates are offered and counted.
-use borrow.Author.Rules.{rules}
-use mathlib.Core.Path.{◌≡◌, refl}
-use native.Mathlib.Omega.{arith}
-use Rattle.lists.specs.Lists.{member_of}
-use Rattle.neighbor.specs.Gathered.{runs, Gathered}
-use Rattle.cell_codes.specs.Codes.{visible}
+use Rattle.std.proofs.Common.{◌≡◌, refl, arith}
+use lib.ListN.{length-take}
+use Rattle.std.proofs.lemmas.Result.{err_from_is_err_and}
+use Rattle.neighbor.specs.Gathered.{batch_of, runs}
+use Rattle.cell_codes.specs.Codes.{row_at, visible}
 use Rattle.cell_stretch.specs.StretchInner.{sums_of}
-use Rattle.cell_walk.proofs.Walks.{gathered-start, offered-start, finite-start, count-start, candidates-few, walk-offered, stretch-broken, stretch-went, walked-broken, walked_through}
+use Rattle.cell_walk.proofs.Walks.{gathered-start, offered-start, finite-start, count-start, candidates-few, still-gathered, stretch-broken, stretch-went, walked-broken, walked_through}
 use Rattle.cell_walk.proofs.walk_by_batch.Goals as goal
 
 pub loop-from-init : goal.loop-from-init
 loop-from-init c =
+    let z = c.args.z in
+    let f = sums_of z c.args.centers c.args.table.now in record {
+      within = omega arith;
+      finite = finite-start f (visible z.mask.now) (row_at z);
+      offered = offered-start f (visible z.mask.now) (row_at z) _;
+      counted = count-start f (visible z.mask.now) (row_at z);
+    }
+
+pub visit_stretch-requires-clause-gathered : goal.visit_stretch-requires-clause-gathered
+visit_stretch-requires-clause-gathered c =
     let a = c.args in
-    let f = sums_of a.z a.centers a.codes.now a.table.now in
-    let v = visible a.mask.now in
-    let g = member_of a.z.celled a.members.now in
-    (search rules, refl, refl, refl, refl, finite-start f v g, offered-start f v g _, count-start f v g)
-
-pub stretch_end-to-requires : goal.stretch_end-to-requires
-stretch_end-to-requires c = c.loop-from-test.true
-
-pub visit_stretch-step-requires : goal.visit_stretch-step-requires
-visit_stretch-step-requires c =
-    let start : Gathered (runs c.args.rows.now c.args.sums.now c.args.found c.args.batch_rows.now c.args.batch_sums.now 0) = gathered-start _ _ _ _ _ c.requires.ready.1 c.requires.batch_sums_len.0 c.requires.batch_sums_len.1 in
-    let e = c.stretch_end-to.ensures in
     let l = c.loop-from.invariant in
-    let a = c.args in record { ready = (c.requires.ready.0, record { forth = omega (arith, e.0); within = e.1; few = e.2 }); gathered = (walk-offered (sums_of a.z a.centers a.codes.now a.table.now) (visible a.mask.now) (member_of a.z.celled a.members.now) _ _ _ start l.5 l.6).again }
+    still-gathered (sums_of a.z a.centers a.table.now) (visible a.z.mask.now) (row_at a.z) _ _ _ _ c.requires.ready.1 c.requires.batch_len _ _ l.finite l.offered
 
-pub returns-in-Refused : goal.returns-in-Refused
-returns-in-Refused c =
+pub returns-in_err-went : goal.returns-in_err-went
+returns-in_err-went c =
     let a = c.args in
-    let f = sums_of a.z a.centers a.codes.now a.table.now in
-    let v = visible a.mask.now in
-    let g = member_of a.z.celled a.members.now in
+    let l = c.loop-from in
     let e = c.stretch_end-to.ensures in
-    walked-broken f v g a.z.n a.rows.now a.sums.now a.found _ _ c.stretch_end-to.result _ e.1
-    (stretch-broken f v g c.loop-from.from c.stretch_end-to.result (omega (arith, e.0)) _ _ _ _ _ _ c.visit_stretch-step.ensures _ c.in-Refused.is)
+    let p = err_from_is_err_and c.from_residual.result c.from_residual.ensures.1 in
+    let f = sums_of a.z a.centers a.table.now in
+    rw (p.1, p.2)
+    (walked-broken f (visible a.z.mask.now) (row_at a.z) a.z.n a.rows.now a.sums.now a.found _ _ c.stretch_end-to.result _ e.1
+    (stretch-broken f (visible a.z.mask.now) (row_at a.z) l.from c.stretch_end-to.result (omega (arith, e.0)) (runs l.rows l.sums l.holds (batch_of l.batch l.waiting)) _ _ _ _ c.visit_stretch.ensures _ c.in_err-went.was))
 
 pub overflow_add-scored : goal.overflow_add-scored
 overflow_add-scored c =
     let a = c.args in
-    let f = sums_of a.z a.centers a.codes.now a.table.now in
-    let v = visible a.mask.now in
-    let g = member_of a.z.celled a.members.now in
+    let l = c.loop-from in
     let e = c.stretch_end-to.ensures in
-    let E = stretch-went f v g c.loop-from.from c.stretch_end-to.result (omega (arith, e.0)) _ _ _ _ _ _ c.visit_stretch-step.ensures _ _ _ c.in-Went.is in
-    omega (arith, c.loop-from.invariant.7, E.counted, candidates-few f v g c.stretch_end-to.result, e.1, c.requires.ready.0.rows-of.numbered.few)
-
-pub loop-from-smaller : goal.loop-from-smaller
-loop-from-smaller c = omega (arith, c.stretch_end-to.ensures.0, c.stretch_end-to.ensures.1)
+    let f = sums_of a.z a.centers a.table.now in
+    let E = stretch-went f (visible a.z.mask.now) (row_at a.z) l.from c.stretch_end-to.result (omega (arith, e.0)) (runs l.rows l.sums l.holds (batch_of l.batch l.waiting)) _ _ _ _ c.visit_stretch.ensures _ c.in_ok-went.was in
+    omega (arith, l.invariant.counted, E.counted, candidates-few f (visible a.z.mask.now) (row_at a.z) c.stretch_end-to.result, e.1, c.requires.ready.0.rows-of.numbered.few)
 
 pub loop-from-preserved : goal.loop-from-preserved
 loop-from-preserved c =
     let a = c.args in
-    let l = c.loop-from.invariant in
+    let l = c.loop-from in
     let e = c.stretch_end-to.ensures in
-    let E =
-    stretch-went (sums_of a.z a.centers a.codes.now a.table.now) (visible a.mask.now) (member_of a.z.celled a.members.now)
-    c.loop-from.from c.stretch_end-to.result (omega (arith, e.0)) _ _ _ _ _ _ c.visit_stretch-step.ensures _ _ _ c.in-Went.is in
-    (e.1, search rules, search rules, search rules, search rules, E.passed l.5, E.offered _ l.6, omega (arith, l.7, E.counted))
+    let f = sums_of a.z a.centers a.table.now in
+    let E = stretch-went f (visible a.z.mask.now) (row_at a.z) l.from c.stretch_end-to.result (omega (arith, e.0)) (runs l.rows l.sums l.holds (batch_of l.batch l.waiting)) _ _ _ _ c.visit_stretch.ensures _ c.in_ok-went.was in
+    record { within = e.1; finite = E.passed l.invariant.finite; offered = E.offered _ l.invariant.offered; counted = omega (arith, l.invariant.counted, E.counted) }
 
-pub merge-all-requires : goal.merge-all-requires
-merge-all-requires c =
-    let start : Gathered (runs c.args.rows.now c.args.sums.now c.args.found c.args.batch_rows.now c.args.batch_sums.now 0) = gathered-start _ _ _ _ _ c.requires.ready.1 c.requires.batch_sums_len.0 c.requires.batch_sums_len.1 in
+pub slice_bounds-merge-end : goal.slice_bounds-merge-end
+slice_bounds-merge-end c =
     let a = c.args in
     let l = c.loop-from.invariant in
-    let h = (walk-offered (sums_of a.z a.centers a.codes.now a.table.now) (visible a.mask.now) (member_of a.z.celled a.members.now) _ _ _ start l.5 l.6).again in
+    let h = still-gathered (sums_of a.z a.centers a.table.now) (visible a.z.mask.now) (row_at a.z) _ _ _ _ c.requires.ready.1 c.requires.batch_len _ _ l.finite l.offered in
+    omega (arith, h.room, h.within)
+
+pub slice_bounds-merge-end-2 : goal.slice_bounds-merge-end-2
+slice_bounds-merge-end-2 c =
+    let a = c.args in
+    let l = c.loop-from.invariant in
+    let h = still-gathered (sums_of a.z a.centers a.table.now) (visible a.z.mask.now) (row_at a.z) _ _ _ _ c.requires.ready.1 c.requires.batch_len _ _ l.finite l.offered in
+    simp length-take (omega (arith, h.room, h.within))
+
+pub merge-found-requires : goal.merge-found-requires
+merge-found-requires c =
+    let a = c.args in
+    let l = c.loop-from.invariant in
+    let h = still-gathered (sums_of a.z a.centers a.table.now) (visible a.z.mask.now) (row_at a.z) _ _ _ _ c.requires.ready.1 c.requires.batch_len _ _ l.finite l.offered in
     (h.results, h.batch)
 
 pub returns : goal.returns
 returns c =
-    let start : Gathered (runs c.args.rows.now c.args.sums.now c.args.found c.args.batch_rows.now c.args.batch_sums.now 0) = gathered-start _ _ _ _ _ c.requires.ready.1 c.requires.batch_sums_len.0 c.requires.batch_sums_len.1 in
     let a = c.args in
     let m = c.loop-from in
     let l = m.invariant in
+    let start = gathered-start c.args.rows.now c.args.sums.now c.args.found c.args.batch.now c.requires.ready.1 c.requires.batch_len in
     let e : m.from ≡ a.z.n = omega (arith, c.loop-from-test.false) in
-    walked_through (sums_of a.z a.centers a.codes.now a.table.now) (visible a.mask.now) (member_of a.z.celled a.members.now) a.z.n a.rows.now a.sums.now a.found _ _
-    a.batch_rows.now a.batch_sums.now (runs m.rows m.sums m.holds m.batch_rows m.batch_sums m.waiting) _ _ start (rw e at l.5) (rw e at l.6) (rw e at l.7) c.merge-all.ensures
+    walked_through (sums_of a.z a.centers a.table.now) (visible a.z.mask.now) (row_at a.z) a.z.n a.rows.now a.sums.now a.found _ _
+    (batch_of a.batch.now 0) (runs m.rows m.sums m.holds (batch_of m.batch m.waiting)) _ _ _ refl start (rw e at l.finite) (rw e at l.offered) (rw e at l.counted)
+    refl c.merge-found.ensures

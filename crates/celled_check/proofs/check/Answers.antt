@@ -1,29 +1,16 @@
--- `check`: refused with nothing changed where `check_refusal` gives a number, else the work.
+-- `check`: refused with nothing changed where `check_refusal` refuses, else the work.
 use mathlib.Core.Path.{◌∙◌}
-use Rattle.celled_lists.specs.Index.{index_of}
-use Rattle.celled_check.specs.Check.{CheckIn, check_in, index_sound}
+use Rattle.std.proofs.lemmas.Result.{err_from_is_err_and}
 use Rattle.celled_check.proofs.CheckInner.{ready, out-refused, out-worked}
 use Rattle.celled_check.proofs.check.Goals as goal
 
-pub returns-then-number-ne0 : goal.returns-then-number-ne0
-returns-then-number-ne0 c =
-    let given : CheckIn = let a = c.args in
-    check_in (index_of a.s a.n a.coarse.now a.starts.now a.members.now a.subs.now a.codes.now) a.work.now in
-    let v = c.check_refusal-number in
-    out-refused given v.result v.ensures c.if-number-ne0.true
+pub returns-in_err-check_refusal : goal.returns-in_err-check_refusal
+returns-in_err-check_refusal c =
+    let p = err_from_is_err_and c.from_residual.result c.from_residual.ensures.1 in
+    rw (p.1, p.2) (out-refused _ _ c.check_refusal.ensures _ c.in_err-check_refusal.was)
 
 pub check_ready-requires : goal.check_ready-requires
-check_ready-requires c =
-    let given : CheckIn = let a = c.args in
-    check_in (index_of a.s a.n a.coarse.now a.starts.now a.members.now a.subs.now a.codes.now) a.work.now in
-    let v = c.check_refusal-number in
-    ready given v.result v.ensures c.if-number-ne0.false
+check_ready-requires c = ready _ _ c.check_refusal.ensures c.in_ok-check_refusal.was
 
 pub returns : goal.returns
-unfolding index_sound
-returns c =
-    let given : CheckIn = let a = c.args in
-    check_in (index_of a.s a.n a.coarse.now a.starts.now a.members.now a.subs.now a.codes.now) a.work.now in
-    let v = c.check_refusal-number in
-    c.check_ready.ensures
-    ∙ out-worked given v.result v.ensures c.if-number-ne0.false
+returns c = c.check_ready.ensures ∙ out-worked _ _ c.check_refusal.ensures c.in_ok-check_refusal.was

@@ -1,4 +1,3 @@
-use Prim.Native.Nat.{◌≤◌}
 use mathlib.Core.Path.{◌≡◌}
 use lib.ListN.{length}
 use Rattle.celled_lists.specs.Cells.{cell_start}
@@ -8,6 +7,6 @@ use Rattle.celled_fill.proofs.fill_codes.Given as goal
 
 abbrev pub invariant-loop-c : goal.invariant-loop-c
 invariant-loop-c l =
-    (l.c ≤ l.s.cells)
-    × (length l.codes ≡ length l.initial.codes)
-    × (l.codes ≡ coded_to (filled_code l.s l.coarse l.subs l.rows) l.s.plain.nsub l.members (cell_start (cell_at l.s l.coarse l.rows) (length l.members) l.c) l.initial.codes)
+    let coarse = l.x.coarse.now in
+    let members = l.x.members.now in
+    l.codes ≡ coded_to (filled_code l.s coarse l.subs l.rows) l.s.plain.nsub members (cell_start (cell_at l.s coarse l.rows) (length members) l.c) l.initial.codes

@@ -1,19 +1,10 @@
 -- `fill_lists`: the cells go to the first words of work, and the lists are made from them.
 use borrow.Author.Rules.{rules}
-use mathlib.Core.Path.{sym, ◌∙◌, ap}
-use native.Mathlib.Omega.{arith}
-use lib.Seq.{length-take-le, length_front}
+use mathlib.Core.Path.{◌∙◌, ap}
+use lib.Seq.{length_front}
 use Rattle.lists.specs.Lists.{fill}
 use Rattle.celled_fill.proofs.Coarse.{front-celled, front_lists}
 use Rattle.celled_fill.proofs.fill_lists.Goals as goal
-
-pub slice_bounds-assign_cells-end-2 : goal.slice_bounds-assign_cells-end-2
-slice_bounds-assign_cells-end-2 c =
-    sym (length-take-le c.args.n c.args.work.now (omega (arith, c.requires.1.work-long)))
-
-pub assign_cells-requires : goal.assign_cells-requires
-assign_cells-requires c =
-    (c.requires.0, length-take-le c.args.n c.args.work.now (omega (arith, c.requires.1.work-long)))
 
 pub fill_lists-requires : goal.fill_lists-requires
 fill_lists-requires c =

@@ -1,52 +1,41 @@
-use borrow.Author.Rules.{rules}
-use mathlib.Core.Path.{◌≡◌, refl, ◌∙◌}
-use native.Mathlib.Omega.{arith}
+use Rattle.std.proofs.Common.{◌≡◌, refl, arith, rules}
+use Rattle.std.proofs.lemmas.Result.{err_from_is_err_and}
 use Rattle.kmeans.specs.Kmeans.{epochs_to}
-use Rattle.kmeans_assign.specs.Task.{task_of}
+use Rattle.kmeans_assign.specs.Task.{task_given}
 use Rattle.kmeans.proofs.Training.{epochs-step, epochs-refused}
-use Rattle.kmeans_split.proofs.Runs.{told-not-done}
 use Rattle.kmeans.proofs.Reached.{epochs-drawn-at}
 use Rattle.kmeans.proofs.run_epochs.Goals as goal
 
 pub loop-e-init : goal.loop-e-init
 unfolding epochs_to
-loop-e-init c = (search rules, refl, refl, refl, c.requires.fact.1)
+loop-e-init c = c.requires.fact.1
 
-pub run_epoch-c-requires : goal.run_epoch-c-requires
-run_epoch-c-requires c =
+pub run_epoch-requires-clause-trainable : goal.run_epoch-requires-clause-trainable
+run_epoch-requires-clause-trainable c =
     let a = c.args in
     let l = c.loop-e in
-    let t = task_of a.f a.rows.now a.members.now a.residual.now a.epochs a.draws.now in record {
-      framed = c.requires.framed;
-      trainable = record {
-        centers-long = l.invariant.1 ∙ c.requires.trainable.centers-long;
-        assigned-long = l.invariant.2 ∙ c.requires.trainable.assigned-long;
-        counts-long = l.invariant.3 ∙ c.requires.trainable.counts-long;
-        in-range = c.requires.trainable.in-range;
-        drawn = epochs-drawn-at t a.used l.at l.e _ l.invariant.4 refl c.requires.trainable.drawn;
-      };
+    let p = c.requires.trainable in record {
+      centers-long = search rules;
+      assigned-long = search rules;
+      counts-long = search rules;
+      in-range = p.in-range;
+      drawn = epochs-drawn-at (task_given a.g a.epochs a.draws.now) a.used l.at l.e _ l.invariant refl p.drawn;
     }
 
-pub returns-in_default : goal.returns-in_default
-returns-in_default c =
+pub returns-in_err-at : goal.returns-in_err-at
+returns-in_err-at c =
     let a = c.args in
     let l = c.loop-e in
-    let v = c.run_epoch-c in
-    epochs-refused (task_of a.f a.rows.now a.members.now a.residual.now a.epochs a.draws.now) a.used l.at l.e _ _ l.invariant.4 refl v.ensures (told-not-done v.result c.in_default.not-Done) c.loop-e-test.true
+    let p = err_from_is_err_and c.from_residual.result c.from_residual.ensures.1 in
+    rw (p.1, p.2) (epochs-refused (task_given a.g a.epochs a.draws.now) a.used l.at l.e _ _ l.invariant refl c.in_err-at.ensures tt c.loop-e-test.true)
 
 pub loop-e-preserved : goal.loop-e-preserved
 loop-e-preserved c =
     let a = c.args in
     let l = c.loop-e in
-    let v = c.run_epoch-c in (
-      omega (arith, c.loop-e-test.true),
-      search rules,
-      search rules,
-      search rules,
-      epochs-step (task_of a.f a.rows.now a.members.now a.residual.now a.epochs a.draws.now) a.used l.at l.e _ _ l.invariant.4 refl c.in-Done.ensures,
-    )
+    epochs-step (task_given a.g a.epochs a.draws.now) a.used l.at l.e _ _ l.invariant refl c.in_ok-at.ensures
 
 pub returns : goal.returns
 returns c =
     let e : c.loop-e.e ≡ c.args.epochs = omega arith in
-    rw e at c.loop-e.invariant.4
+    rw e at c.loop-e.invariant

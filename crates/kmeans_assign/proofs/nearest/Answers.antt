@@ -3,7 +3,8 @@ use Prim.Native.Nat.{ℕ, ◌+◌}
 use mathlib.Core.Path.{◌≡◌, sym, ◌∙◌, ap}
 use native.Mathlib.Omega.{arith}
 use lib.ListN.{length}
-use Rattle.metrics.specs.declared.Worked.{Worked}
+use Rattle.std.specs.Prelude.{Option, option_copied}
+use lib.Ieee.{Float}
 use Rattle.lists.proofs.Joins.{within}
 use Rattle.metrics.specs.Distance.{value_in}
 use Rattle.kmeans_assign.specs.Assign.{distance_to, nearest}
@@ -11,24 +12,24 @@ use Rattle.kmeans_assign.proofs.Choosing.{nearest-one, nearest-took, nearest-kep
 use Rattle.kmeans_assign.proofs.nearest.Goals as goal
 use Rattle.kmeans_assign.proofs.nearest.Goals.{then-less, else-less}
 
-pub distance_to-least-requires : goal.distance_to-least-requires
-distance_to-least-requires c =
+pub distance_to-least-requires-clause-centers_len : goal.distance_to-least-requires-clause-centers_len
+distance_to-least-requires-clause-centers_len c =
     let a = c.args in
-    (search rules, omega (arith, within 0 a.n (length a.x.now) (search rules)))
+    omega (arith, within 0 a.n (length a.x.now) (search rules))
 
 pub loop-i-init : goal.loop-i-init
 loop-i-init c = (search rules, search rules, sym (nearest-one _), search rules)
 
-pub distance_to-rival-requires : goal.distance_to-rival-requires
-distance_to-rival-requires c =
+pub distance_to-rival-requires-clause-centers_len : goal.distance_to-rival-requires-clause-centers_len
+distance_to-rival-requires-clause-centers_len c =
     let a = c.args in
-    (search rules, omega (arith, within c.loop-i.i a.n (length a.x.now) c.loop-i-test.true))
+    omega (arith, within c.loop-i.i a.n (length a.x.now) c.loop-i-test.true)
 
 pub loop-i-preserved : goal.loop-i-preserved
 loop-i-preserved c =
     let s = c.loop-i in
     let a = c.args in
-    let d : ℕ → Worked = distance_to (value_in a.has a.x.now a.residual.now) a.centers.now (length a.x.now) in
+    let d : ℕ → Option Float = distance_to (value_in (option_copied a.residual) a.x.now) a.centers.now (length a.x.now) in
     let rival = c.distance_to-rival.result in
     let r : rival ≡ d s.i = c.distance_to-rival.ensures in
     let next : (c.if-less.best ≡ nearest d (s.i + 1)) × (c.if-less.least ≡ d c.if-less.best) =

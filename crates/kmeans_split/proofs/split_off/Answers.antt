@@ -4,7 +4,7 @@ use Rattle.lists.proofs.Joins.{within}
 use Rattle.kmeans_split.specs.Split.{split_task}
 use mathlib.Core.Path.{ap₂, ◌≡◌}
 use mathlib.Core.Bool.{◌&&◌}
-use Rattle.answers.specs.declared.Clustered.TheVariants.{Done}
+use Rattle.std.specs.Prelude.{Ok}
 use Rattle.kmeans_split.proofs.Runs.{split-run}
 use lib.ListN.{length}
 use mathlib.Core.List.{[]}
@@ -30,9 +30,9 @@ finite_center-got-requires c =
 pub returns-then-got-kept : goal.returns-then-got-kept
 returns-then-got-kept c =
     let s = c.args in
-    λ to. rw c.if-got-kept.true at (split-run (split_task s.f []) s.epoch s.i s.a s.used s.centers.now _ to s.counts.now _ (Done s.used) c.split_coordinates.ensures c.split_count.ensures _ (ap₂ ◌&&◌ c.finite_center-got.ensures c.finite_center-kept.ensures))
+    λ to. rw c.if-got-kept.true at (split-run (split_task s.f []) s.epoch s.i s.a s.used s.centers.now _ to s.counts.now _ (Ok s.used) c.split_coordinates.ensures c.split_count.ensures _ (ap₂ ◌&&◌ c.finite_center-got.ensures c.finite_center-kept.ensures))
 
 pub returns-else-got-kept : goal.returns-else-got-kept
 returns-else-got-kept c =
     let s = c.args in
-    λ to. rw c.if-got-kept.false at (split-run (split_task s.f []) s.epoch s.i s.a s.used s.centers.now _ to s.counts.now _ (Done s.used) c.split_coordinates.ensures c.split_count.ensures _ (ap₂ ◌&&◌ c.finite_center-got.ensures c.finite_center-kept.ensures))
+    λ to. rw c.if-got-kept.false at (split-run (split_task s.f []) s.epoch s.i s.a s.used s.centers.now _ to s.counts.now _ (Ok s.used) c.split_coordinates.ensures c.split_count.ensures _ (ap₂ ◌&&◌ c.finite_center-got.ensures c.finite_center-kept.ensures))

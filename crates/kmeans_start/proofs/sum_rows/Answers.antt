@@ -1,37 +1,27 @@
-use Rattle.std.proofs.Common.{◌≡◌, length, sym, refl, ap, ◌∙◌, arith, rules}
+use Rattle.std.proofs.Common.{◌≡◌, length, sym, ap, ◌∙◌, arith}
 use Rattle.lists.proofs.Tables.{length-tab}
 use Rattle.metrics.specs.Distance.{sum_to}
-use Rattle.kmeans_assign.specs.Task.{row_task}
+use Rattle.kmeans_assign.specs.Task.{row_given}
+use Rattle.kmeans_assign.proofs.Rows.{residual-held, row-value}
 use Rattle.kmeans_start.proofs.Starting.{column-step}
-use Rattle.kmeans_assign.proofs.Rows.{row-held, row-value}
 use Rattle.kmeans_start.proofs.sum_rows.Goals as goal
 
 pub loop-k-init : goal.loop-k-init
 unfolding sum_to
-loop-k-init c = (search rules, refl, c.requires.sums_value)
-
-pub row_range-x-requires : goal.row_range-x-requires
-row_range-x-requires c = row-held c.requires.framed c.loop-k-test.true
+loop-k-init c = c.requires.sums_value
 
 pub add_into-requires : goal.add_into-requires
 add_into-requires c =
-    let long : length c.args.sums.now ≡ c.args.f.w = ap length c.requires.sums_value ∙ length-tab _ _ in
-    let l = long in
-    let i = c.loop-k.invariant.1 in
-    (c.row_range-x.ensures.long ∙ sym (i ∙ l), c.requires.framed.residual-long ∙ sym (i ∙ l))
+    let l = ap length c.loop-k.invariant ∙ length-tab _ _ in
+    record { x_len = c.row_range.ensures.long ∙ sym l; residual_len = residual-held c.args.g _ c.requires.framed l }
 
 pub loop-k-preserved : goal.loop-k-preserved
 loop-k-preserved c =
-    let a = c.args in
+    let g = c.args.g in
     let i = c.loop-k in
-    let x = c.row_range-x in
-    let t = row_task a.f a.rows.now a.members.now a.residual.now in (
-      search rules,
-      search rules,
-      c.add_into.ensures ∙ column-step t i.k a.f.w i.sums x.result.now a.residual.now a.f.has i.invariant.2 (λ j h. row-value a.f a.members.now a.residual.now i.k j x.ensures h),
-    )
+    c.add_into.ensures ∙ column-step (row_given g) i.k g.frame.w i.sums _ _ i.invariant (λ j h. row-value g i.k j c.row_range.ensures h)
 
 pub returns : goal.returns
 returns c =
-    let e : c.loop-k.k ≡ c.args.f.n = omega arith in
-    rw (← e) c.loop-k.invariant.2
+    let e : c.loop-k.k ≡ c.args.g.frame.n = omega arith in
+    rw (← e) c.loop-k.invariant

@@ -1,9 +1,8 @@
-use Prim.Native.Nat.{◌≤◌}
 use mathlib.Core.Path.{◌≡◌}
-use Rattle.lists.specs.Tests.{every}
-use Rattle.offers.specs.OffersInner.{behind_at}
+use lib.ListN.{take}
+use Rattle.std.specs.List.{list_all}
+use Rattle.offers.specs.OffersInner.{behind}
 use Rattle.offers.proofs.all_behind.Given as goal
 
-abbrev pub invariant-loop-j : goal.invariant-loop-j
-invariant-loop-j l =
-    (l.j ≤ l.n) × (l.all ≡ every (behind_at l.least l.picked l.picked_sums) l.j)
+abbrev pub invariant-loop-c : goal.invariant-loop-c
+invariant-loop-c l = l.all ≡ list_all (behind l.least) (take l.c-index l.picked)

@@ -1,33 +1,25 @@
--- `offer_each`: the rows passed are offered.
+-- `offer_each`: those passed are offered.
 use borrow.Author.Rules.{rules}
-use mathlib.Core.Path.{◌≡◌, refl}
-use native.Mathlib.Omega.{arith}
-use Rattle.lists.proofs.Tests.{every_true}
-use Rattle.metrics.specs.Distance.{finite_in}
+use mathlib.Core.Path.{refl}
+use lib.Seq.{take_all}
 use Rattle.offers.proofs.Offers.{each_none, each_more, each-gathered}
 use Rattle.offers.proofs.offer_each.Goals as goal
 
-pub loop-j-init : goal.loop-j-init
-loop-j-init c = (search rules, refl, refl, refl, refl, each_none _ c.args.picked.now c.args.picked_sums.now)
+pub loop-c-init : goal.loop-c-init
+loop-c-init c = record { rows_long = refl; sums_long = refl; offered = each_none _ c.args.picked.now }
 
 pub offer-counts-requires : goal.offer-counts-requires
 offer-counts-requires c = (
-  each-gathered _ _ c.args.picked.now c.args.picked_sums.now c.args.n c.loop-j.j c.requires.gathered c.requires.stands c.loop-j.invariant.0 c.loop-j.invariant.5,
-  every_true (finite_in c.args.picked_sums.now) c.args.n c.requires.stands.all-finite c.loop-j.j c.loop-j-test.true,
+  each-gathered _ _ c.args.picked.now c.loop-c.c-index c.requires.gathered c.requires.finite c.loop-c.invariant.offered,
+  c.requires.finite c.loop-c.c-index c.loop-c-test.true,
 )
 
-pub loop-j-preserved : goal.loop-j-preserved
-loop-j-preserved c =
-    let a = c.args in (
-      omega (arith, c.loop-j-test.true),
-      search rules,
-      search rules,
-      search rules,
-      search rules,
-      each_more _ _ _ a.picked.now a.picked_sums.now c.loop-j.j c.loop-j.invariant.5 c.offer-counts.ensures,
-    )
+pub loop-c-preserved : goal.loop-c-preserved
+loop-c-preserved c = record {
+  rows_long = search rules;
+  sums_long = search rules;
+  offered = each_more _ _ _ c.args.picked.now c.loop-c.c-index c.loop-c-test.true c.loop-c.invariant.offered c.offer-counts.ensures;
+}
 
 pub returns : goal.returns
-returns c =
-    let e : c.loop-j.j ≡ c.args.n = omega arith in
-    rw e at c.loop-j.invariant.5
+returns c = rw (take_all c.loop-c.c-index c.args.picked.now c.loop-c-test.false) at c.loop-c.invariant.offered

@@ -1,29 +1,16 @@
 -- `train`: the tests, and then the work, whose outcome is the definition's.
-use mathlib.Core.Path.{◌≡◌, ◌∙◌}
-use Rattle.plain_train.specs.Outcome.{TrainIn, train_in}
-use Rattle.plain_train.proofs.Tested.{number_in, ready, out-refused, out-worked}
+use Rattle.std.proofs.Common.{◌∙◌}
+use Rattle.std.proofs.lemmas.Result.{err_from_is_err_and}
+use Rattle.plain_train.proofs.Tested.{tests-told, ready, out-refused, out-worked}
 use Rattle.plain_train.proofs.train.Goals as goal
 
-pub returns-then-number-ne0 : goal.returns-then-number-ne0
-returns-then-number-ne0 c =
-    let given : TrainIn = let a = c.args in
-    train_in a.s a.epochs a.n a.rows.now a.draws.now a.subs.now a.codes.now a.work.now in
-    let told : c.train_refusal-number.result ≡ number_in given = c.train_refusal-number.ensures
-    ∙ rw (c.bad_plain.ensures, c.bad_epochs.ensures, c.plain_lengths-l.ensures, c.too_many_draws.ensures) in
-    out-refused given c.train_refusal-number.result told c.if-number-ne0.true
+pub returns-in_err-train_refusal : goal.returns-in_err-train_refusal
+returns-in_err-train_refusal c =
+    let p = err_from_is_err_and c.from_residual.result c.from_residual.ensures.1 in
+    rw (p.1, p.2) (out-refused _ _ (c.in_err-train_refusal.ensures ∙ tests-told _ c.bad_plain.ensures c.bad_epochs.ensures c.plain_lengths-l.ensures c.too_many_draws.ensures))
 
 pub train_ready-requires : goal.train_ready-requires
-train_ready-requires c =
-    let given : TrainIn = let a = c.args in
-    train_in a.s a.epochs a.n a.rows.now a.draws.now a.subs.now a.codes.now a.work.now in
-    let told : c.train_refusal-number.result ≡ number_in given = c.train_refusal-number.ensures
-    ∙ rw (c.bad_plain.ensures, c.bad_epochs.ensures, c.plain_lengths-l.ensures, c.too_many_draws.ensures) in
-    ready given c.train_refusal-number.result told c.if-number-ne0.false
+train_ready-requires c = ready _ (c.in_ok-train_refusal.ensures ∙ tests-told _ c.bad_plain.ensures c.bad_epochs.ensures c.plain_lengths-l.ensures c.too_many_draws.ensures)
 
 pub returns : goal.returns
-returns c =
-    let given : TrainIn = let a = c.args in
-    train_in a.s a.epochs a.n a.rows.now a.draws.now a.subs.now a.codes.now a.work.now in
-    let told : c.train_refusal-number.result ≡ number_in given = c.train_refusal-number.ensures
-    ∙ rw (c.bad_plain.ensures, c.bad_epochs.ensures, c.plain_lengths-l.ensures, c.too_many_draws.ensures) in
-    c.train_ready.ensures ∙ out-worked given c.train_refusal-number.result told c.if-number-ne0.false
+returns c = c.train_ready.ensures ∙ out-worked _ (c.in_ok-train_refusal.ensures ∙ tests-told _ c.bad_plain.ensures c.bad_epochs.ensures c.plain_lengths-l.ensures c.too_many_draws.ensures)

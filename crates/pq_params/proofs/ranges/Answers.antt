@@ -6,11 +6,11 @@ use Rattle.pq_params.specs.Ranges.{ranges_of}
 use Rattle.pq_params.proofs.ranges.Goals as goal
 
 pub loop-i-init : goal.loop-i-init
-loop-i-init c = (search rules, search rules, tab-none _ _)
+loop-i-init c = (search rules, tab-none _ _)
 
 pub loop-i-preserved : goal.loop-i-preserved
-loop-i-preserved c = (search rules, search rules, tab-step _ _ _ _ _ [] (search rules) c.loop-i.invariant.2 c.range_at.ensures)
+loop-i-preserved c = (search rules, tab-step _ _ _ _ _ [] (search rules) c.loop-i.invariant.1 c.range_at.ensures)
 
 pub returns : goal.returns
 unfolding ranges_of
-returns c = tab-done _ _ _ _ _ c.loop-i.invariant.2 (search rules) (search rules) (search rules)
+returns c = tab-done _ _ _ _ _ c.loop-i.invariant.1 (search rules) (search rules) (search rules)

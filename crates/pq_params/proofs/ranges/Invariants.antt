@@ -1,4 +1,3 @@
-use Prim.Native.Nat.{◌≤◌}
 use mathlib.Core.Path.{◌≡◌}
 use mathlib.Core.List.{◌++◌}
 use lib.ListN.{length, drop}
@@ -8,4 +7,4 @@ use Rattle.pq_params.proofs.ranges.Given as goal
 
 abbrev pub invariant-loop-i : goal.invariant-loop-i
 invariant-loop-i l =
-    (l.i ≤ 64) × (length l.out ≡ 64) × (l.out ≡ tab (pair_at l.d l.nsub) l.i ++ drop l.i l.initial.out)
+    (length l.pair-items ≡ 64) × (l.pair-items ≡ tab (pair_at l.d l.nsub) l.i ++ drop l.i l.initial.pair-items)

@@ -1,27 +1,20 @@
--- `probed_sound`: the cells passed are sound, and the first that is not ends the walk.
-use borrow.Author.Rules.{rules}
-use borrow.Author.Count.{below_none, below_more}
-use Rattle.lists.proofs.Tests.{every_of, every-false}
-use mathlib.Core.Path.{sym, ◌∙◌}
-use native.Mathlib.Omega.{arith}
-use lib.ListN.{length}
+-- `probed_sound`: each cell of the list may be tested, and all are.
+use Rattle.std.proofs.Common.{◌≡◌, rules, true, false}
+use Rattle.std.proofs.lemmas.Iterator.{cases_from_all, YieldsList-from_slice}
+use Rattle.std.proofs.lemmas.Iterator.Adapters.{serves_from_places}
+use Rattle.std.proofs.lemmas.List.{get_or_default}
+use Rattle.probed_cells.specs.Search.{asking_in, cell_sound}
+use Rattle.probed_cells.proofs.ProbedLists.{all_tested}
 use Rattle.probed_cells.proofs.probed_sound.Goals as goal
 
-pub loop-p-init : goal.loop-p-init
-loop-p-init c = (search rules, below_none _)
-
-pub cell_sound-requires : goal.cell_sound-requires
-cell_sound-requires c =
-    (c.requires.0, rw c.wide-c.ensures (c.requires.1 c.loop-p.p c.loop-p-test.true))
-
-pub returns-then-not-cell_sound : goal.returns-then-not-cell_sound
-returns-then-not-cell_sound c =
-    let a = c.args in
-    sym (every-false _ (length a.probed.now) c.loop-p.p c.loop-p-test.true (rw c.wide-c.ensures at (sym c.cell_sound.ensures) ∙ c.if-not-cell_sound.true))
-
-pub loop-p-preserved : goal.loop-p-preserved
-loop-p-preserved c =
-    (search rules, below_more _ _ c.loop-p.invariant.1 (rw c.wide-c.ensures at (sym c.cell_sound.ensures) ∙ c.if-not-cell_sound.false))
+pub all-requires-clause-callable : goal.all-requires-clause-callable
+all-requires-clause-callable c =
+    serves_from_places (YieldsList-from_slice c.args.probed.now cc) (λ x q e. search rules)
+    (λ x k h e. let m = c.requires.1 k h in let d = get_or_default c.args.probed.now k x.now 0 h in search rules)
 
 pub returns : goal.returns
-returns c = sym (every_of _ _ (λ i h. c.loop-p.invariant.1 i (omega arith)))
+returns c =
+    let b = asking_in c.args.a in
+    let l = c.args.probed.now in
+    let each = cases_from_all _ _ _ (λ x. cell_sound b x ≡ true) (λ x. cell_sound b x ≡ false) c.all.ensures.ran (YieldsList-from_slice l cc) (λ x q k. search rules) (λ x q k. search rules) in
+    all_tested (λ x. cell_sound b x) l _ each

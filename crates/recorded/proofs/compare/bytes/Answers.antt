@@ -1,17 +1,15 @@
-use borrow.Author.Rules.{rules}
-use Rattle.lending.proofs.Laws.{every-done}
-use Rattle.lists.specs.Tests.{every}
-use mathlib.Core.Path.{refl}
-use native.Mathlib.Numerals.{add-one}
+use Rattle.std.proofs.Common.{rules, length, ◌∙◌}
+use borrow.Author.Tests.{tests}
+use Rattle.std.proofs.lemmas.Iterator.{YieldsList-from_range}
+use Rattle.std.proofs.lemmas.Iterator.Search.{all_from_yields_List}
+use Rattle.lending.proofs.Laws.{all-every_below}
+use Rattle.recorded.specs.Layout.{padded_words}
+use Rattle.recorded.specs.Compare.{as_word}
 use Rattle.recorded.proofs.compare.bytes.Goals as goal
 
-pub loop-k-init : goal.loop-k-init
-unfolding every
-loop-k-init c = (search rules, refl)
-
-pub loop-k-preserved : goal.loop-k-preserved
-unfolding every
-loop-k-preserved c = (search rules, rw add-one (cc))
-
 pub returns : goal.returns
-returns c = every-done _ _ _ _ c.loop-k.invariant.1 (search rules) (search rules)
+returns c =
+    let test = as_word c.args.body.now c.args.at c.args.s.now in
+    let n = padded_words (length c.args.s.now) in
+    all_from_yields_List test _ _ _ c.all.ensures.ran (YieldsList-from_range 0 n n (cc) (search rules)) (λ x b q k. search (rules, tests))
+    ∙ all-every_below test n

@@ -1,8 +1,8 @@
+use Rattle.std.proofs.Common.{ℕ, ◌+◌, ◌*◌, ◌≤◌, ◌<◌, length}
+use Rattle.std.specs.Option.{option_copied}
 use Rattle.lists.specs.Lists.{member_of}
-use Prim.Native.Nat.{ℕ, ◌+◌, ◌*◌, ◌≤◌, ◌<◌}
-use lib.ListN.{length}
 use Rattle.replay_kmeans.proofs.fits.are_held.Given as goal
 
 abbrev pub invariant-loop-k : goal.invariant-loop-k
 invariant-loop-k l =
-    (l.k ≤ l.f.n) × ((i : ℕ) → i < l.k → member_of l.f.listed l.members i * l.f.d + l.f.d ≤ length l.rows)
+    (l.k ≤ l.g.frame.n) × ((i : ℕ) → i < l.k → member_of (option_copied l.g.members) i * l.g.frame.d + l.g.frame.d ≤ length l.g.rows.now)
