@@ -4,7 +4,7 @@
 ghost use Rattle.std.specs.Prelude.{◌≡◌, ◌<◌, length, IfSome, option_copied};
 ghost use Rattle.std.specs.Float.Ieee.Scale.{finite};
 ghost use Rattle.lists.specs.Tests.{every};
-ghost use Rattle.metrics.specs.Distance.{value_of, residual_at, value_in, coordinate_in, finite_in, worked, distance};
+ghost use Rattle.metrics.specs.Distance.{value_of, residual_at, value_in, coordinate_in, finite_in, squared, worked, distance};
 
 // Whether x is a number: an infinity or a NaN less itself is no zero.
 pub fn is_finite(x: f32) -> bool
@@ -50,16 +50,42 @@ pub fn mark(sum: f32) -> Option<f32>
     if is_finite(sum) { Some(sum) } else { None }
 }
 
-// The distance of the values of x to a centre: the sum of the squares from +0.0, in coordinate order.
+// The sum of the squares of x less a centre, from +0.0, in coordinate order.
+fn squares(x: &[f32], center: &[f32]) -> f32
+    requires { length x.now ≡ length center.now }
+    ensures { result ≡ squared (value_in None x.now) (coordinate_in center.now) (length center.now) }
+{
+    let mut sum: f32 = 0.0;
+    // By index: two slices are read beside each other.
+    for j in 0..center.len() {
+        let d = x[j] - center[j];
+        sum += d * d;
+    }
+    sum
+}
+
+// The same of x less a residual.
+fn squares_less(x: &[f32], residual: &[f32], center: &[f32]) -> f32
+    requires { (length x.now ≡ length center.now) × (length residual.now ≡ length center.now) }
+    ensures { result ≡ squared (value_in (Some residual.now) x.now) (coordinate_in center.now) (length center.now) }
+{
+    let mut total: f32 = 0.0;
+    // By index: three slices are read beside each other.
+    for j in 0..center.len() {
+        let less = x[j] - residual[j] - center[j];
+        total += less * less;
+    }
+    total
+}
+
+// The distance of the values of x to a centre: the sum of the squares from +0.0, in coordinate order. Whether there is a residual is
+// asked once, and not at each coordinate.
 pub fn distance(x: &[f32], residual: Option<&[f32]>, center: &[f32]) -> Option<f32>
     requires { (length x.now ≡ length center.now) × IfSome residual (λ r. length r.now ≡ length center.now) }
     ensures { result ≡ distance (value_in (option_copied residual.entry) x.now) (coordinate_in center.now) (length center.now) }
 {
-    let mut sum: f32 = 0.0;
-    // By index: two slices are read beside each other, and a third where there is a residual.
-    for j in 0..center.len() {
-        let d = value(x[j], residual_at(residual, j)) - center[j];
-        sum += d * d;
+    match residual {
+        Some(r) => mark(squares_less(x, r, center)),
+        None => mark(squares(x, center)),
     }
-    mark(sum)
 }
