@@ -1,5 +1,5 @@
-// The face: each entry point once more, its parameters flat and its answer in numbers, as C has them. The crate bergrosk_c exports each of these functions to C under its
-// own name. No function asks anything of what it is lent.
+// The face: each entry point once more, its parameters flat and its answer in numbers, as C has them. The crate bergrosk_c exports each
+// of these functions to C under its own name. No function asks anything of what it is lent.
 #![tactic(auto)]
 
 ghost use Rattle.std.specs.Prelude.{◌≡◌};

@@ -68,4 +68,5 @@ step_with finite s count = cond finite (Ok (record { found = s.found; waiting = 
 pub record Visited (f : ℕ → Float) (v : ℕ → Bool) (g : ℕ → ℕ) (from to : ℕ) (s : Runs)
     (rows' : List ℕ) (sums' : List Float) (batch' : List Candidate) (r : Result Went Refusal) : Type 0 where
   pub answer : r ≡ step_with (finite_stretch f v g from to) (after_stretch f v g from to s) (length (candidates_in f v g from to))
-  pub runs-are : runs rows' sums' (after_stretch f v g from to s).found (batch_of batch' (after_stretch f v g from to s).batch.waiting) ≡ after_stretch f v g from to s
+  pub runs-are : runs rows' sums' (after_stretch f v g from to s).found (batch_of batch' (after_stretch f v g from to s).batch.waiting)
+      ≡ after_stretch f v g from to s

@@ -97,8 +97,8 @@ fn store_sums(t: Sums<'_>, picked: &mut [Candidate])
     store_each(t, &mut picked[j..]);
 }
 
-// The sums of picked rows, taken together as one worked distance, as document 01 has a worked distance taken apart: the mark, if one of them is not finite. The loop does not stop there,
-// so that it goes over several at a time.
+// The sums of picked rows, taken together as one worked distance: the mark, if one of them is not finite. Document 01 has summing take
+// one apart by `let .. else`. The loop does not stop at a mark, so that it goes over several at a time.
 fn mark_all(picked: &[Candidate]) -> Option<f32>
     ensures { result ≡ worked_all picked.now }
 {
