@@ -1,21 +1,17 @@
 -- Joints between the steps of the whole check: the counts, the three walks, the tests, and the two ends.
-use Prim.Native.Nat.{ℕ, ◌+◌, ◌*◌, ◌≤◌, ◌<◌}
+use Prim.Native.Nat.{ℕ, ◌+◌, ◌*◌, ◌≤◌}
 use mathlib.Core.Path.{◌≡◌, sym, ◌∙◌, ap}
-use mathlib.Core.Bool.{Bool, true, false, ◌&&◌, not}
+use mathlib.Core.Bool.{Bool, ◌&&◌, not}
 use mathlib.Core.List.{List, [], ◌∷◌, ◌++◌}
-use native.Mathlib.Nat.{zero-add}
 use native.Mathlib.Omega.{arith}
 use lib.ListN.{length, take}
 use lib.Seq.{get_or-take}
 use lib.Dec.{eqb}
 use Rattle.std.specs.Prelude.{Ok, Err}
-use Rattle.std.specs.Bool.{MatchBool}
-use Rattle.std.specs.List.{AllWithin, HoldsAt, range_with_len}
-use Rattle.std.proofs.lemmas.List.FromFn.{length-range_with_len, get_or-range_with_len}
 use Rattle.lists.specs.Lists.{tab}
 use Rattle.lists.specs.Tests.{any_of, every}
 use Rattle.lists.proofs.Tables.{get_or-tab}
-use Rattle.lists.proofs.Tests.{none, none_left, every-ext, every_of, every-false}
+use Rattle.lists.proofs.Tests.{none, none_left, every-ext}
 use Rattle.lists.proofs.Walks.{every-stretch}
 use Rattle.answers.specs.declared.Refusal.{Refusal}
 use Rattle.answers.specs.Answers.{Checked}
@@ -31,16 +27,6 @@ use Rattle.celled_lists.specs.Index.{Index, lengths_of, length_tests, index_leng
 use Rattle.celled_lists.proofs.Lengths.{sized}
 use Rattle.celled_check.specs.Check.{stands_once, index_sound, CheckIn, check_out, check_lengths, check_refusal, checked, check_outcome}
 use Rattle.celled_check.specs.CheckInner.{refusal_by, is_one, cells_sound, Ready}
-
--- a test of every number below n, as a walk over them answers it
-pub all_cells : (f : ℕ → Bool) (n : ℕ) (r : Bool)
-    → MatchBool r (AllWithin (λ k. f k ≡ true) (range_with_len 0 n) 0 (length (range_with_len 0 n)))
-    ((k : ℕ) × (k < length (range_with_len 0 n)) × HoldsAt (λ k. f k ≡ false) (range_with_len 0 n) k)
-    → r ≡ every f n
-all_cells f n true h = sym (every_of f n (λ i k. rw (get_or-range_with_len, zero-add) at (h i 0 (omega arith) (omega (arith, length-range_with_len 0 n)))))
-all_cells f n false h =
-    let k : h.0 < n = omega (arith, length-range_with_len 0 n) in
-    sym (every-false f n h.0 k (rw (get_or-range_with_len, zero-add) at (h.2 0)))
 
 -- each row number stands once where each of the first n counts is 1
 pub once-counted : (members counts : List ℕ) (n w : ℕ) → counts ≡ tab (places members) w → n ≤ w → every (is_one (take n counts)) n ≡ every (stands_once members) n

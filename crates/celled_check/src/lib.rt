@@ -24,12 +24,16 @@ fn check_refusal(x: &CelledIndex<'_>, work: usize) -> Result<(), Refusal>
     pq_params::check_refusal(bad, x.n, index | (work != long.work))
 }
 
-// Whether the list of every cell is sound.
+// Whether the list of every cell is sound. Not by `all`, which leaves at the first that is not.
 fn lists_sound(x: &CelledIndex<'_>) -> bool
     requires { let i = index_in x.now in Lists i × (starts_sound i.starts i.shape.cells i.n ≡ true) }
     ensures { let i = index_in x.now in result ≡ every (cell_sound i.starts i.members i.n) i.shape.cells }
 {
-    (0..x.shape.cells).all(|c| celled_lists::list_sound(x.list(c), x.n))
+    let mut sound = true;
+    for c in 0..x.shape.cells {
+        sound &= celled_lists::list_sound(x.list(c), x.n);
+    }
+    sound
 }
 
 // Whether the starts are sound, and then the lists.
@@ -62,13 +66,14 @@ fn rows_once(members: &[u32], n: usize, work: &mut [u32]) -> bool
     once
 }
 
-// Whether every code is below K. (Row numbers have a test of their own: no trait makes both a u8 and a u32 a usize.)
+// Whether every code is below K. (Row numbers have a test of their own: no trait makes both a u8 and a u32 a usize.) By number, so that an
+// edit can leave out the first code and nothing else.
 fn codes_below(codes: &[u8], centers: usize) -> bool
     ensures { result ≡ every (is_below codes.now centers) (length codes.now) }
 {
     let mut below = true;
-    for code in codes {
-        below &= (*code as usize) < centers;
+    for p in 0..codes.len() {
+        below &= lists::wide_byte(codes[p]) < centers;
     }
     below
 }

@@ -17,7 +17,8 @@ pub record SearchIn : Type 0 where
   pub lent : Lent
 
 -- what a promise builds of the inputs
-abbrev pub search_in : CelledShape → ℕ → List Float → List ℕ → List Float → List ℕ → List ℕ → List Float → List ℕ → Lent → SearchIn
+abbrev pub search_in : CelledShape → ℕ → List Float → List ℕ → List Float → List ℕ → List ℕ
+    → List Float → List ℕ → Lent → SearchIn
 search_in s n query mask coarse starts members subs codes l =
     record { asked = asking s n query mask coarse starts members subs codes; lent = l }
 

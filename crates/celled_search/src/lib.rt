@@ -16,7 +16,8 @@ use celled_lists::CelledIndex;
 use pq_params::CelledShape;
 use probed_cells::Asking;
 
-// Steps 2 to 5, with places for the cells to probe. What is lent is clear, and a refusal leaves it so.
+// Steps 2 to 5, with places for the cells to probe. What is lent is clear, and a refusal leaves it so. The probe's refusal is handed on
+// by its name, so that an edit can name another one.
 fn search_nearest(
     a: Asking<'_>,
     probed: &mut [u32],
@@ -30,7 +31,9 @@ fn search_nearest(
         search_worked (asking_in a.entry) (lent rows.old sums.old table.old) }
 {
     let s = a.index.shape;
-    celled_probe::probe(s.plain.d, s.cells, a.query, a.index.coarse, probed)?;
+    if let Err(why) = celled_probe::probe(s.plain.d, s.cells, a.query, a.index.coarse, probed) {
+        return Err(why);
+    }
     if !probed_cells::probed_sound(a, probed) {
         return Err(Refusal::Damaged);
     }

@@ -1,7 +1,7 @@
 // Examples of the plain search, in a table: what document 01 says of each, beside its neighbour.
 use crate::given;
-use answers::{Found, Refusal};
-use lending::buffers::{DIRTY_FLOAT, DIRTY_NUMBER, ROWS, WORK, filled};
+use answers::SearchAnswer;
+use lending::buffers::{DIRTY_FLOAT, DIRTY_NUMBER, ROWS, WORK};
 use lending::held::held;
 use lending::listed::{are, same, write};
 use lending::parts::first;
@@ -32,13 +32,17 @@ struct Lent {
     table: usize,
 }
 
-// What comes out.
+// What comes out, in document 01's numbers.
 #[derive(Clone, Copy, Debug, PartialEq)]
 enum Expected {
     // Refused by test 1 to 6: results and table are as they were.
-    Refused(Refusal),
+    Refused {
+        number: u32,
+    },
     // 10 or 11: the results are blank, and the table is zero.
-    Blank(Refusal),
+    Blank {
+        number: u32,
+    },
     // The row numbers, which blanks follow, and the sums, the rest being 0; and the table is zero.
     Found {
         found: usize,
@@ -159,7 +163,7 @@ static EXAMPLES: [Example; 35] = [
             sums: 4_097,
             ..USUAL_LENT
         },
-        expected: Expected::Refused(Refusal::TooManyAsked),
+        expected: Expected::Refused { number: 5 },
         ..USUAL
     },
     // 100,001 rows pass test 3, 100,002 do not; row 100,000 alone has the second centre
@@ -210,7 +214,7 @@ static EXAMPLES: [Example; 35] = [
         codes: &[],
         last_code: 1,
         subs: &[],
-        expected: Expected::Refused(Refusal::TooManyRows),
+        expected: Expected::Refused { number: 3 },
         ..USUAL
     },
     // n 0 is legal
@@ -284,7 +288,7 @@ static EXAMPLES: [Example; 35] = [
         },
         codes: &[],
         subs: &[],
-        expected: Expected::Refused(Refusal::NumbersOutOfBounds),
+        expected: Expected::Refused { number: 1 },
         ..USUAL
     },
     Example {
@@ -305,7 +309,7 @@ static EXAMPLES: [Example; 35] = [
         },
         codes: &[],
         subs: &[],
-        expected: Expected::Refused(Refusal::NumbersOutOfBounds),
+        expected: Expected::Refused { number: 1 },
         ..USUAL
     },
     // n_sub 64 and 65, and above D
@@ -353,7 +357,7 @@ static EXAMPLES: [Example; 35] = [
         },
         codes: &[],
         subs: &[],
-        expected: Expected::Refused(Refusal::NumbersOutOfBounds),
+        expected: Expected::Refused { number: 1 },
         ..USUAL
     },
     Example {
@@ -374,7 +378,7 @@ static EXAMPLES: [Example; 35] = [
         },
         codes: &[],
         subs: &[],
-        expected: Expected::Refused(Refusal::NumbersOutOfBounds),
+        expected: Expected::Refused { number: 1 },
         ..USUAL
     },
     // sub_bits 8, whose last code is 255, and 9
@@ -422,7 +426,7 @@ static EXAMPLES: [Example; 35] = [
         },
         codes: &[255],
         subs: &[],
-        expected: Expected::Refused(Refusal::NumbersOutOfBounds),
+        expected: Expected::Refused { number: 1 },
         ..USUAL
     },
     // a buffer not of its length: query, mask, sub-centres, codes, row numbers, sums, table
@@ -431,7 +435,7 @@ static EXAMPLES: [Example; 35] = [
             query: 1,
             ..USUAL_LENT
         },
-        expected: Expected::Refused(Refusal::WrongLength),
+        expected: Expected::Refused { number: 4 },
         ..USUAL
     },
     Example {
@@ -439,7 +443,7 @@ static EXAMPLES: [Example; 35] = [
             mask: 3,
             ..USUAL_LENT
         },
-        expected: Expected::Refused(Refusal::WrongLength),
+        expected: Expected::Refused { number: 4 },
         ..USUAL
     },
     Example {
@@ -447,7 +451,7 @@ static EXAMPLES: [Example; 35] = [
             subs: 7,
             ..USUAL_LENT
         },
-        expected: Expected::Refused(Refusal::WrongLength),
+        expected: Expected::Refused { number: 4 },
         ..USUAL
     },
     Example {
@@ -455,7 +459,7 @@ static EXAMPLES: [Example; 35] = [
             codes: 5,
             ..USUAL_LENT
         },
-        expected: Expected::Refused(Refusal::WrongLength),
+        expected: Expected::Refused { number: 4 },
         ..USUAL
     },
     Example {
@@ -463,7 +467,7 @@ static EXAMPLES: [Example; 35] = [
             rows: 2,
             ..USUAL_LENT
         },
-        expected: Expected::Refused(Refusal::WrongLength),
+        expected: Expected::Refused { number: 4 },
         ..USUAL
     },
     Example {
@@ -471,7 +475,7 @@ static EXAMPLES: [Example; 35] = [
             sums: 2,
             ..USUAL_LENT
         },
-        expected: Expected::Refused(Refusal::WrongLength),
+        expected: Expected::Refused { number: 4 },
         ..USUAL
     },
     Example {
@@ -479,18 +483,18 @@ static EXAMPLES: [Example; 35] = [
             table: 5,
             ..USUAL_LENT
         },
-        expected: Expected::Refused(Refusal::WrongLength),
+        expected: Expected::Refused { number: 4 },
         ..USUAL
     },
     // a query that is no number, or infinite; -0.0; test 5 before test 6
     Example {
         query: &[0.0, f32::NAN],
-        expected: Expected::Refused(Refusal::NotFinite),
+        expected: Expected::Refused { number: 6 },
         ..USUAL
     },
     Example {
         query: &[f32::INFINITY, 0.0],
-        expected: Expected::Refused(Refusal::NotFinite),
+        expected: Expected::Refused { number: 6 },
         ..USUAL
     },
     Example {
@@ -504,13 +508,13 @@ static EXAMPLES: [Example; 35] = [
             ..USUAL_LENT
         },
         query: &[0.0, f32::NAN],
-        expected: Expected::Refused(Refusal::TooManyAsked),
+        expected: Expected::Refused { number: 5 },
         ..USUAL
     },
     // a damaged code of a visible row, and of a hidden one
     Example {
         codes: &[0, 1, 2, 4],
-        expected: Expected::Blank(Refusal::Damaged),
+        expected: Expected::Blank { number: 10 },
         ..USUAL
     },
     Example {
@@ -543,7 +547,7 @@ static EXAMPLES: [Example; 35] = [
         },
         codes: &[],
         subs: &[0.0, TO_64],
-        expected: Expected::Blank(Refusal::DistanceNotFinite),
+        expected: Expected::Blank { number: 11 },
         ..USUAL
     },
     Example {
@@ -618,7 +622,7 @@ static EXAMPLES: [Example; 35] = [
         },
         codes: &[],
         subs: &[TO_63, TO_63, TO_63, TO_63],
-        expected: Expected::Blank(Refusal::DistanceNotFinite),
+        expected: Expected::Blank { number: 11 },
         ..USUAL
     },
     Example {
@@ -659,23 +663,30 @@ fn is_written(named: &[u32], summed: &[f32], rows: &[u32], sums: &[f32], table: 
     same(rows, named, BLANK) && same(sums, summed, 0.0) && are(table, 0.0)
 }
 
+// An answer of these values.
+fn answer_of(number: u32, found: usize, scored: usize) -> SearchAnswer {
+    SearchAnswer {
+        number,
+        found,
+        scored,
+    }
+}
+
 // Whether an answer, and what results and table hold, are those expected.
-fn is_expected(
-    x: &Expected,
-    a: Result<Found, Refusal>,
-    rows: &[u32],
-    sums: &[f32],
-    table: &[f32],
-) -> bool {
+fn is_expected(x: &Expected, a: SearchAnswer, rows: &[u32], sums: &[f32], table: &[f32]) -> bool {
     match *x {
-        Expected::Refused(r) => a == Err(r) && is_untouched(rows, sums, table),
-        Expected::Blank(r) => a == Err(r) && is_written(&[], &[], rows, sums, table),
+        Expected::Refused { number } => {
+            a == answer_of(number, 0, 0) && is_untouched(rows, sums, table)
+        }
+        Expected::Blank { number } => {
+            a == answer_of(number, 0, 0) && is_written(&[], &[], rows, sums, table)
+        }
         Expected::Found {
             found,
             scored,
             rows: named,
             sums: summed,
-        } => a == Ok(Found { found, scored }) && is_written(named, summed, rows, sums, table),
+        } => a == answer_of(0, found, scored) && is_written(named, summed, rows, sums, table),
     }
 }
 
@@ -691,17 +702,17 @@ fn write_mask(e: &Example, mask: &mut [u8]) {
 
 // Whether an example comes out as document 01 says, in the first elements of larger buffers that nobody wrote.
 fn agrees(e: &Example) -> bool {
-    let mut query: [f32; 512] = filled(0.0);
-    let mut subs: [f32; 1_024] = filled(0.0);
-    let mut mask: [u8; ROWS] = filled(128);
-    let mut codes: [u8; ROWS] = filled(0);
+    let mut query = [0.0f32; 512];
+    let mut subs = [0.0f32; 1_024];
+    let mut mask = [128u8; ROWS];
+    let mut codes = [0u8; ROWS];
     write(e.query, 0.0, &mut query);
     write(e.subs, 0.0, &mut subs);
     write_mask(e, &mut mask);
     given::write_ends(e.codes, e.last_code, e.lent.codes, 0, &mut codes);
-    let mut rows: [u32; WORK] = filled(DIRTY_NUMBER);
-    let mut sums: [f32; ROWS] = filled(DIRTY_FLOAT);
-    let mut table: [f32; ROWS] = filled(DIRTY_FLOAT);
+    let mut rows = [DIRTY_NUMBER; WORK];
+    let mut sums = [DIRTY_FLOAT; ROWS];
+    let mut table = [DIRTY_FLOAT; ROWS];
     let r = held(&rows, e.lent.rows);
     let s = held(&sums, e.lent.sums);
     let t = held(&table, e.lent.table);
@@ -719,7 +730,7 @@ fn agrees(e: &Example) -> bool {
         sums,
         table,
     );
-    is_expected(&e.expected, a, rows, sums, table)
+    is_expected(&e.expected, answers::search_answer(a), rows, sums, table)
 }
 
 // Counts the examples, and those that come out as document 01 says. Of each table its own: the examples are of another type.

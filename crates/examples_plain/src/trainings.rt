@@ -1,7 +1,7 @@
 // Examples of the plain training, in a table: what document 01 says of each, beside its neighbour.
 use crate::given;
-use answers::{Refusal, Stage, Step, Untrained};
-use lending::buffers::{DIRTY_BYTE, DIRTY_FLOAT, DIRTY_NUMBER, ROWS, WORK, filled};
+use answers::{Place, TrainAnswer};
+use lending::buffers::{DIRTY_BYTE, DIRTY_FLOAT, DIRTY_NUMBER, ROWS, WORK};
 use lending::held::held;
 use lending::listed::{are, same};
 use lending::parts::first;
@@ -18,13 +18,32 @@ struct Lent {
     work: usize,
 }
 
-// What comes out.
+// The steps of a place, and the place of an answer that names none.
+const START: u32 = 0;
+
+const SPLITTING: u32 = 2;
+
+const NO_PLACE: Place = Place {
+    stage: 0,
+    cell: 0,
+    sub: 0,
+    step: 0,
+    epoch: 0,
+    center: 0,
+};
+
+// What comes out, in document 01's numbers.
 #[derive(Clone, Copy, Debug, PartialEq)]
 enum Expected {
     // Refused by test 1 to 7: sub-centres, codes and work are as they were.
-    Refused(Refusal),
+    Refused {
+        number: u32,
+    },
     // 8 or 9, with its place: sub-centres, codes and work are zero.
-    Stopped(Untrained),
+    Stopped {
+        number: u32,
+        place: Place,
+    },
     // The draws used, the first coordinates of the sub-centres, the rest being 0, and the last code, the others being 0; and work is zero.
     Done {
         used: usize,
@@ -115,7 +134,7 @@ static EXAMPLES: [Example; 34] = [
             work: 101_026,
             ..USUAL_LENT
         },
-        expected: Expected::Refused(Refusal::TooManyRows),
+        expected: Expected::Refused { number: 3 },
         ..USUAL
     },
     // D 256 and 257, and 0
@@ -149,7 +168,7 @@ static EXAMPLES: [Example; 34] = [
             subs: 257,
             ..USUAL_LENT
         },
-        expected: Expected::Refused(Refusal::NumbersOutOfBounds),
+        expected: Expected::Refused { number: 1 },
         ..USUAL
     },
     Example {
@@ -163,7 +182,7 @@ static EXAMPLES: [Example; 34] = [
             subs: 0,
             ..USUAL_LENT
         },
-        expected: Expected::Refused(Refusal::NumbersOutOfBounds),
+        expected: Expected::Refused { number: 1 },
         ..USUAL
     },
     // n_sub 64 and 65, and above D
@@ -199,7 +218,7 @@ static EXAMPLES: [Example; 34] = [
             codes: 65,
             ..USUAL_LENT
         },
-        expected: Expected::Refused(Refusal::NumbersOutOfBounds),
+        expected: Expected::Refused { number: 1 },
         ..USUAL
     },
     Example {
@@ -212,7 +231,7 @@ static EXAMPLES: [Example; 34] = [
             codes: 2,
             ..USUAL_LENT
         },
-        expected: Expected::Refused(Refusal::NumbersOutOfBounds),
+        expected: Expected::Refused { number: 1 },
         ..USUAL
     },
     // sub_bits 8 and 9; an empty centre becomes all zero
@@ -244,7 +263,7 @@ static EXAMPLES: [Example; 34] = [
             subs: 512,
             ..USUAL_LENT
         },
-        expected: Expected::Refused(Refusal::NumbersOutOfBounds),
+        expected: Expected::Refused { number: 1 },
         ..USUAL
     },
     // epochs 1,000 and 1,001, and 0: mean - 1 and mean + 1
@@ -260,7 +279,7 @@ static EXAMPLES: [Example; 34] = [
     },
     Example {
         epochs: 1_001,
-        expected: Expected::Refused(Refusal::NumbersOutOfBounds),
+        expected: Expected::Refused { number: 1 },
         ..USUAL
     },
     Example {
@@ -291,7 +310,7 @@ static EXAMPLES: [Example; 34] = [
             work: 1_024,
             ..USUAL_LENT
         },
-        expected: Expected::Refused(Refusal::NoRows),
+        expected: Expected::Refused { number: 2 },
         ..USUAL
     },
     Example {
@@ -308,7 +327,7 @@ static EXAMPLES: [Example; 34] = [
             work: 1_024,
             ..USUAL_LENT
         },
-        expected: Expected::Refused(Refusal::NumbersOutOfBounds),
+        expected: Expected::Refused { number: 1 },
         ..USUAL
     },
     // a buffer not of its length: rows, sub-centres, codes, work
@@ -319,7 +338,7 @@ static EXAMPLES: [Example; 34] = [
             work: 1_026,
             ..USUAL_LENT
         },
-        expected: Expected::Refused(Refusal::WrongLength),
+        expected: Expected::Refused { number: 4 },
         ..USUAL
     },
     Example {
@@ -331,7 +350,7 @@ static EXAMPLES: [Example; 34] = [
             work: 1_026,
             ..USUAL_LENT
         },
-        expected: Expected::Refused(Refusal::WrongLength),
+        expected: Expected::Refused { number: 4 },
         ..USUAL
     },
     Example {
@@ -341,7 +360,7 @@ static EXAMPLES: [Example; 34] = [
             work: 1_026,
             ..USUAL_LENT
         },
-        expected: Expected::Refused(Refusal::WrongLength),
+        expected: Expected::Refused { number: 4 },
         ..USUAL
     },
     Example {
@@ -351,7 +370,7 @@ static EXAMPLES: [Example; 34] = [
             codes: 2,
             ..USUAL_LENT
         },
-        expected: Expected::Refused(Refusal::WrongLength),
+        expected: Expected::Refused { number: 4 },
         ..USUAL
     },
     // a row that is no number, or infinite; the largest number; -0.0
@@ -364,7 +383,7 @@ static EXAMPLES: [Example; 34] = [
             ..USUAL_LENT
         },
         rows: &[1.0, f32::NAN],
-        expected: Expected::Refused(Refusal::NotFinite),
+        expected: Expected::Refused { number: 6 },
         ..USUAL
     },
     Example {
@@ -376,7 +395,7 @@ static EXAMPLES: [Example; 34] = [
             ..USUAL_LENT
         },
         rows: &[1.0, f32::INFINITY],
-        expected: Expected::Refused(Refusal::NotFinite),
+        expected: Expected::Refused { number: 6 },
         ..USUAL
     },
     Example {
@@ -399,7 +418,7 @@ static EXAMPLES: [Example; 34] = [
             ..USUAL_LENT
         },
         draw: 1.0,
-        expected: Expected::Refused(Refusal::DrawOutOfRange),
+        expected: Expected::Refused { number: 7 },
         ..USUAL
     },
     Example {
@@ -408,7 +427,7 @@ static EXAMPLES: [Example; 34] = [
             ..USUAL_LENT
         },
         draw: -0.25,
-        expected: Expected::Refused(Refusal::DrawOutOfRange),
+        expected: Expected::Refused { number: 7 },
         ..USUAL
     },
     Example {
@@ -417,7 +436,7 @@ static EXAMPLES: [Example; 34] = [
             ..USUAL_LENT
         },
         draw: f64::NAN,
-        expected: Expected::Refused(Refusal::DrawOutOfRange),
+        expected: Expected::Refused { number: 7 },
         ..USUAL
     },
     Example {
@@ -459,7 +478,7 @@ static EXAMPLES: [Example; 34] = [
         },
         rows: &[1.0, f32::NAN],
         draw: 1.0,
-        expected: Expected::Refused(Refusal::NotFinite),
+        expected: Expected::Refused { number: 6 },
         ..USUAL
     },
     // the split of rows (1,2), (3,4) in the first of two epochs, with four draws and with three; and with seven in the second of
@@ -503,11 +522,17 @@ static EXAMPLES: [Example; 34] = [
             work: 1_026,
         },
         rows: &[1.0, 2.0, 3.0, 4.0],
-        expected: Expected::Stopped(Untrained::OutOfDraws {
-            stage: Stage::Sub { cell: 0, sub: 0 },
-            epoch: 1,
-            center: 3,
-        }),
+        expected: Expected::Stopped {
+            number: 8,
+            place: Place {
+                stage: 1,
+                cell: 0,
+                sub: 0,
+                step: SPLITTING,
+                epoch: 1,
+                center: 3,
+            },
+        },
         ..USUAL
     },
     Example {
@@ -526,11 +551,17 @@ static EXAMPLES: [Example; 34] = [
             work: 1_026,
         },
         rows: &[1.0, 2.0, 3.0, 4.0],
-        expected: Expected::Stopped(Untrained::OutOfDraws {
-            stage: Stage::Sub { cell: 0, sub: 1 },
-            epoch: 1,
-            center: 3,
-        }),
+        expected: Expected::Stopped {
+            number: 8,
+            place: Place {
+                stage: 1,
+                cell: 0,
+                sub: 1,
+                step: SPLITTING,
+                epoch: 1,
+                center: 3,
+            },
+        },
         ..USUAL
     },
     // a mean that is not finite, and a donor that is not finite after the split
@@ -543,12 +574,17 @@ static EXAMPLES: [Example; 34] = [
             ..USUAL_LENT
         },
         rows: &[f32::MAX, f32::MAX],
-        expected: Expected::Stopped(Untrained::NotFinite {
-            stage: Stage::Sub { cell: 0, sub: 0 },
-            step: Step::Start,
-            epoch: 0,
-            center: 0,
-        }),
+        expected: Expected::Stopped {
+            number: 9,
+            place: Place {
+                stage: 1,
+                cell: 0,
+                sub: 0,
+                step: START,
+                epoch: 0,
+                center: 0,
+            },
+        },
         ..USUAL
     },
     Example {
@@ -564,12 +600,17 @@ static EXAMPLES: [Example; 34] = [
             ..USUAL_LENT
         },
         rows: &[f32::MAX],
-        expected: Expected::Stopped(Untrained::NotFinite {
-            stage: Stage::Sub { cell: 0, sub: 0 },
-            step: Step::Splitting,
-            epoch: 1,
-            center: 1,
-        }),
+        expected: Expected::Stopped {
+            number: 9,
+            place: Place {
+                stage: 1,
+                cell: 0,
+                sub: 0,
+                step: SPLITTING,
+                epoch: 1,
+                center: 1,
+            },
+        },
         ..USUAL
     },
 ];
@@ -592,34 +633,41 @@ fn is_written(list: &[f32], last_code: u8, subs: &[f32], codes: &[u8], work: &[u
     same(subs, list, 0.0) && are_codes(last_code, codes) && are(work, 0)
 }
 
+// An answer of these values.
+fn answer_of(number: u32, place: Place, used: usize) -> TrainAnswer {
+    TrainAnswer {
+        number,
+        place,
+        used,
+    }
+}
+
 // Whether an answer, and what sub-centres, codes and work hold, are those expected.
-fn is_expected(
-    x: &Expected,
-    t: Result<usize, Untrained>,
-    subs: &[f32],
-    codes: &[u8],
-    work: &[u32],
-) -> bool {
+fn is_expected(x: &Expected, a: TrainAnswer, subs: &[f32], codes: &[u8], work: &[u32]) -> bool {
     match *x {
-        Expected::Refused(r) => t == Err(Untrained::Refused(r)) && is_untouched(subs, codes, work),
-        Expected::Stopped(why) => t == Err(why) && is_written(&[], 0, subs, codes, work),
+        Expected::Refused { number } => {
+            a == answer_of(number, NO_PLACE, 0) && is_untouched(subs, codes, work)
+        }
+        Expected::Stopped { number, place } => {
+            a == answer_of(number, place, 0) && is_written(&[], 0, subs, codes, work)
+        }
         Expected::Done {
             used,
             subs: list,
             last_code,
-        } => t == Ok(used) && is_written(list, last_code, subs, codes, work),
+        } => a == answer_of(0, NO_PLACE, used) && is_written(list, last_code, subs, codes, work),
     }
 }
 
 // Whether an example comes out as document 01 says, in the first elements of larger buffers that nobody wrote. Document 01's draws of the
 // split follow the first one, twice.
 fn agrees(e: &Example) -> bool {
-    let mut rows: [f32; ROWS] = filled(0.0);
+    let mut rows = [0.0f32; ROWS];
     given::write_ends(e.rows, e.last, e.lent.rows, 0.0, &mut rows);
     let draws = [e.draw, 0.25, 0.5, 0.4, 0.0, 0.25, 0.5, 0.4];
-    let mut subs: [f32; ROWS] = filled(DIRTY_FLOAT);
-    let mut codes: [u8; ROWS] = filled(DIRTY_BYTE);
-    let mut work: [u32; WORK] = filled(DIRTY_NUMBER);
+    let mut subs = [DIRTY_FLOAT; ROWS];
+    let mut codes = [DIRTY_BYTE; ROWS];
+    let mut work = [DIRTY_NUMBER; WORK];
     let s = held(&subs, e.lent.subs);
     let c = held(&codes, e.lent.codes);
     let w = held(&work, e.lent.work);
@@ -636,7 +684,7 @@ fn agrees(e: &Example) -> bool {
         codes,
         work,
     );
-    is_expected(&e.expected, t, subs, codes, work)
+    is_expected(&e.expected, answers::train_answer(t), subs, codes, work)
 }
 
 // Counts the examples, and those that come out as document 01 says. Of each table its own: the examples are of another type.

@@ -65,11 +65,12 @@ pub fn row_number(members: Option<&[u32]>, k: usize) -> usize
     }
 }
 
-// Every element becomes v. Not by the slice's own `fill`, which clones v and so asks what a clone is.
+// Every element becomes v. Not by the slice's own `fill`, which clones v and so asks what a clone is; and by number, so that an edit can
+// leave out the first and nothing else.
 pub fn fill<T: Copy>(s: &mut [T], v: T)
     ensures { s.new ≡ fill v (length s.old) }
 {
-    for x in s {
-        *x = v;
+    for i in 0..s.len() {
+        s[i] = v;
     }
 }

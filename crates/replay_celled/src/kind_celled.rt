@@ -2,7 +2,7 @@
 use crate::place;
 use crate::place::{Numbers, Offsets};
 use celled_lists::CelledIndex;
-use lending::buffers::{DIRTY_BYTE, DIRTY_FLOAT, DIRTY_NUMBER, DRAWS, ROWS, filled};
+use lending::buffers::{DIRTY_BYTE, DIRTY_FLOAT, DIRTY_NUMBER, DRAWS, ROWS};
 use lending::held::held;
 use lending::listed;
 use lending::parts::first;
@@ -21,13 +21,13 @@ fn is_index(body: &[u8], p: Offsets, x: &CelledIndex<'_>) -> bool {
 
 // Whether the whole check, in the first elements of a larger buffer that nobody wrote, accepts an index and leaves work zero.
 fn is_whole(x: &CelledIndex<'_>) -> bool {
-    let mut work: [u32; 1_536] = filled(DIRTY_NUMBER);
+    let mut work = [DIRTY_NUMBER; 1_536];
     let w = held(&work, pq_params::celled_lengths(x.shape, x.n).work);
     let work = &mut work[..w];
     let checked = celled_check::check(
         x.shape, x.n, x.coarse, x.starts, x.members, x.subs, x.codes, work,
     );
-    checked.is_ok() && listed::are(work, 0)
+    answers::check_answer(checked) == 0 && listed::are(work, 0)
 }
 
 // Whether the search that is recorded at a place has the recorded answer, in the first elements of larger buffers that nobody wrote. All
@@ -38,9 +38,9 @@ fn finds(body: &[u8], at: usize, x: &CelledIndex<'_>) -> bool {
     let mask = [128u8; 512];
     let mut query = [0.0f32; 256];
     layout::load(body, after(at, 1), &mut query);
-    let mut rows: [u32; 600] = filled(DIRTY_NUMBER);
-    let mut sums: [f32; 600] = filled(DIRTY_FLOAT);
-    let mut table: [f32; ROWS] = filled(DIRTY_FLOAT);
+    let mut rows = [DIRTY_NUMBER; 600];
+    let mut sums = [DIRTY_FLOAT; 600];
+    let mut table = [DIRTY_FLOAT; ROWS];
     let r = held(&rows, k);
     let s = held(&sums, k);
     let t = held(&table, pq_params::celled_lengths(x.shape, x.n).table);
@@ -84,12 +84,12 @@ fn is_replayed(body: &[u8], h: Numbers, p: Offsets, x: &CelledIndex<'_>) -> bool
 // Whether a training of some rows with some draws, in the first elements of larger buffers that nobody wrote, ends with the recorded
 // answer, leaves work zero, and makes the recorded index.
 fn replays(body: &[u8], h: Numbers, l: CelledLengths, rows: &[f32], draws: &[f64]) -> bool {
-    let mut coarse: [f32; ROWS] = filled(DIRTY_FLOAT);
-    let mut starts: [u32; 1_025] = filled(DIRTY_NUMBER);
-    let mut members: [u32; 512] = filled(DIRTY_NUMBER);
-    let mut subs: [f32; ROWS] = filled(DIRTY_FLOAT);
-    let mut codes: [u8; ROWS] = filled(DIRTY_BYTE);
-    let mut work: [u32; 1_536] = filled(DIRTY_NUMBER);
+    let mut coarse = [DIRTY_FLOAT; ROWS];
+    let mut starts = [DIRTY_NUMBER; 1_025];
+    let mut members = [DIRTY_NUMBER; 512];
+    let mut subs = [DIRTY_FLOAT; ROWS];
+    let mut codes = [DIRTY_BYTE; ROWS];
+    let mut work = [DIRTY_NUMBER; 1_536];
     let a = held(&coarse, l.coarse);
     let b = held(&starts, l.starts);
     let m = held(&members, l.members);
@@ -122,8 +122,8 @@ fn replays(body: &[u8], h: Numbers, l: CelledLengths, rows: &[f32], draws: &[f64
 pub(crate) fn agrees(body: &[u8]) -> bool {
     let h = place::numbers_of(body);
     let l = pq_params::celled_lengths(h.shape, h.n);
-    let mut rows: [f32; ROWS] = filled(0.0);
-    let mut draws: [f64; DRAWS] = filled(0.0);
+    let mut rows = [0.0f32; ROWS];
+    let mut draws = [0.0f64; DRAWS];
     layout::load(body, place::FIRST_ROW, &mut rows);
     layout::load(body, place::offsets_of(h, l).draws, &mut draws);
     replays(body, h, l, first(&rows, l.rows), first(&draws, h.draws))

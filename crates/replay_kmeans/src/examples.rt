@@ -1,18 +1,21 @@
 // Document 01's worked examples of k-means, in a table.
 use crate::checked;
 use crate::checked::Failed;
-use answers::Unclustered;
+use answers::{Place, Stage, TrainAnswer};
 use kmeans_assign::{Frame, Given};
 use lending::listed::same;
 use lending::parts::first;
 use lending::tally;
 use lending::tally::Tally;
 
-// What comes out.
+// What comes out, as a training says it whose coarse k-means this is.
 #[derive(Clone, Copy, Debug, PartialEq)]
 enum Expected {
-    // Why it stopped; what the buffers hold then is not said.
-    Stopped(Unclustered),
+    // The number and place of an 8 or 9; what the buffers hold then is not said.
+    Stopped {
+        number: u32,
+        place: Place,
+    },
     // The draws used, the centres, how many rows each has, and the last assignment.
     Done {
         used: usize,
@@ -93,10 +96,17 @@ static EXAMPLES: [Example; 5] = [
         epochs: 1,
         splits: true,
         draws: &[0.0, 0.25, 0.5],
-        expected: Expected::Stopped(Unclustered::OutOfDraws {
-            epoch: 1,
-            center: 3,
-        }),
+        expected: Expected::Stopped {
+            number: 8,
+            place: Place {
+                stage: 0,
+                cell: 0,
+                sub: 0,
+                step: 2,
+                epoch: 1,
+                center: 3,
+            },
+        },
     },
     // five equal rows, all of which one centre has: a donor count of 5 gives 2 and 3
     Example {
@@ -131,22 +141,35 @@ fn given(e: &Example) -> Given<'_> {
     }
 }
 
+// What a training says whose coarse k-means ran so; none where it was left out.
+fn said(ran: Result<usize, Failed>) -> Option<TrainAnswer> {
+    let clustered = match ran {
+        Ok(used) => Ok(used),
+        Err(Failed::Stopped(why)) => Err(why),
+        Err(Failed::Unfit) => return None,
+    };
+    Some(answers::train_answer(answers::at_stage(Stage::Coarse, clustered)))
+}
+
 // Whether an answer, and the centres, assignment and counts that it leaves, are those expected.
 fn is_expected(
     x: &Expected,
-    ran: Result<usize, Failed>,
+    a: TrainAnswer,
     centers: &[f32],
     assigned: &[u32],
     counts: &[u32],
 ) -> bool {
     match *x {
-        Expected::Stopped(why) => ran == Err(Failed::Stopped(why)),
+        Expected::Stopped { number, place } => a.number == number
+            && a.place == place
+            && a.used == 0,
         Expected::Done {
             used,
             at,
             counts: held,
             assigned: to,
-        } => ran == Ok(used)
+        } => a.number == 0
+            && a.used == used
             && same(centers, at, 0.0)
             && same(assigned, to, 0)
             && same(counts, held, 0),
@@ -168,9 +191,12 @@ fn agrees(e: &Example) -> bool {
         &mut assigned,
         &mut counts,
     );
+    let Some(a) = said(ran) else {
+        return false;
+    };
     is_expected(
         &e.expected,
-        ran,
+        a,
         first(&centers, recorded::layout::product(e.centers, 2)),
         first(&assigned, g.frame.n),
         first(&counts, e.centers),

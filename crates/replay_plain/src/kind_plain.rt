@@ -1,6 +1,6 @@
 // A recorded plain index: its training and its searches, replayed by our code.
 use answers::Untrained;
-use lending::buffers::{DIRTY_BYTE, DIRTY_FLOAT, DIRTY_NUMBER, DRAWS, ROWS, filled};
+use lending::buffers::{DIRTY_BYTE, DIRTY_FLOAT, DIRTY_NUMBER, DRAWS, ROWS};
 use lending::held::held;
 use lending::listed;
 use lending::parts::first;
@@ -85,9 +85,9 @@ fn finds(body: &[u8], at: usize, x: Index<'_>) -> bool {
     let mask = [128u8; 512];
     let mut query = [0.0f32; 256];
     layout::load(body, after(at, 1), &mut query);
-    let mut rows: [u32; 600] = filled(DIRTY_NUMBER);
-    let mut sums: [f32; 600] = filled(DIRTY_FLOAT);
-    let mut table: [f32; ROWS] = filled(DIRTY_FLOAT);
+    let mut rows = [DIRTY_NUMBER; 600];
+    let mut sums = [DIRTY_FLOAT; 600];
+    let mut table = [DIRTY_FLOAT; ROWS];
     let r = held(&rows, k);
     let s = held(&sums, k);
     let t = held(&table, pq_params::plain_lengths(h.shape, h.n).table);
@@ -130,9 +130,9 @@ fn finds_all(body: &[u8], begin: usize, x: Index<'_>) -> bool {
 // Whether a training of some rows with some draws, in the first elements of larger buffers that nobody wrote, ends with the recorded
 // answer, leaves work zero, and makes an index whose searches have theirs.
 fn replays(body: &[u8], numbers: Numbers, l: PlainLengths, rows: &[f32], draws: &[f64]) -> bool {
-    let mut subs: [f32; ROWS] = filled(DIRTY_FLOAT);
-    let mut codes: [u8; ROWS] = filled(DIRTY_BYTE);
-    let mut work: [u32; 1_536] = filled(DIRTY_NUMBER);
+    let mut subs = [DIRTY_FLOAT; ROWS];
+    let mut codes = [DIRTY_BYTE; ROWS];
+    let mut work = [DIRTY_NUMBER; 1_536];
     let s = held(&subs, l.subs);
     let c = held(&codes, l.codes);
     let w = held(&work, l.work);
@@ -162,8 +162,8 @@ fn replays(body: &[u8], numbers: Numbers, l: PlainLengths, rows: &[f32], draws: 
 pub(crate) fn agrees(body: &[u8]) -> bool {
     let h = numbers_of(body);
     let l = pq_params::plain_lengths(h.shape, h.n);
-    let mut rows: [f32; ROWS] = filled(0.0);
-    let mut draws: [f64; DRAWS] = filled(0.0);
+    let mut rows = [0.0f32; ROWS];
+    let mut draws = [0.0f64; DRAWS];
     layout::load(body, FIRST_ROW, &mut rows);
     layout::load(body, offsets_of(h, l).draws, &mut draws);
     replays(body, h, l, first(&rows, l.rows), first(&draws, h.draws))

@@ -2,5 +2,5 @@ use Rattle.std.proofs.Common.{◌≡◌, ◌++◌, drop}
 use Rattle.lists.specs.Lists.{fill}
 use Rattle.lists.proofs.fill.Given as goal
 
-abbrev pub invariant-loop-x : goal.invariant-loop-x
-invariant-loop-x g l = l.x-items ≡ fill l.v l.x-index ++ drop l.x-index l.initial.x-items
+abbrev pub invariant-loop-i : goal.invariant-loop-i
+invariant-loop-i g l = l.s ≡ fill l.v l.i ++ drop l.i l.initial.s
